@@ -3,7 +3,7 @@ use Rattle.std.proofs.lemmas.List.{length-append, length-map}
 use Rattle.std.proofs.Common.{◌≡◌, ◌∙◌, ap, sym, subst, ℕ, zero, suc, List, [], ◌∷◌, ◌++◌, arith, length, ◌<◌, ◌≤◌}
 use Rattle.std.specs.Prelude.{ℤ, pos, Option, Some, Result, Ok, Err, slice_get, map}
 use Rattle.asn1_schema.specs.declared.fault.Fault.{Fault}
-use Rattle.asn1_schema.specs.declared.fault.Fault.TheVariants as faults
+use Rattle.asn1_schema.proofs.Depths.{unless}
 use Rattle.asn1_schema.specs.declared.tape.Item.{Item}
 use Rattle.asn1_schema.specs.declared.tape.Item.TheVariants as items
 use Rattle.asn1_schema.specs.Values.{Value, bits, measure, count}
@@ -106,11 +106,11 @@ pub bounds_read : {T : Type 0} (P : Value → Type 0) (lower upper : Option ℤ)
     JudgesBounds lower upper (measure (value_of a.kept)) r →
     ReadsValue (λ v. P v × IsMeasured lower upper (measure v)) old new r
 bounds_read P lower upper old new (Ok x) one a j = record { kept = a.kept; holds = (a.holds, j); is = a.is }
-bounds_read P lower upper old new (Err faults.Memory) one a j = tt
-bounds_read P lower upper old new (Err faults.Refused) one a j = λ v b.
-    j (subst (λ (z : Value). IsMeasured lower upper (measure z)) (one v (value_of a.kept) b.0 a.holds) b.1)
+bounds_read P lower upper old new (Err e) one a j =
+    unless e (IsMeasured lower upper (measure (value_of a.kept)) → ⊥) ((v : Value) → P v × IsMeasured lower upper (measure v) → ⊥)
+    (λ n v b. n (subst (λ (z : Value). IsMeasured lower upper (measure z)) (one v (value_of a.kept) b.0 a.holds) b.1)) j
 
 pub bounds_refused : (T U : Type 0) (P : Value → Type 0) (lower upper : Option ℤ) (old mid new : List Item) (e : Fault) →
     ReadsValue {T = U} P old mid (Err e) → ReadsValue {T = T} (λ v. P v × IsMeasured lower upper (measure v)) old new (Err e)
-bounds_refused T U P lower upper old mid new faults.Memory a = tt
-bounds_refused T U P lower upper old mid new faults.Refused a = λ v b. a v b.0
+bounds_refused T U P lower upper old mid new e a =
+    unless e ((v : Value) → P v → ⊥) ((v : Value) → P v × IsMeasured lower upper (measure v) → ⊥) (λ n v b. n v b.0) a

@@ -1,33 +1,33 @@
 -- What a call put behind a table.
-use Rattle.std.proofs.Common.{ℕ, List, [], ◌∷◌, ◌++◌, ◌≡◌, ◌<◌, ◌-◌, zero, suc, length, length-append, subst, sym, ap, refl, arith, Option, Some}
-use Rattle.std.specs.Prelude.{ℤ, Result, Ok, Err, IfOk, OnOk, slice_get}
+use Rattle.std.proofs.Common.{ℕ, List, [], ◌∷◌, ◌++◌, ◌≡◌, ◌<◌, ◌-◌, zero, suc, length, length-append, ◌∙◌, subst, sym, ap, refl, arith, Option, Some}
+use Rattle.std.specs.Prelude.{ℤ, Bool, not, ◌||◌, Result, Ok, Err, IfOk, OnOk, OnErr, slice_get, slice_set}
+use Rattle.asn1_schema.specs.Grammar.{has_tag, is_tag_of}
+use Rattle.asn1_schema.specs.declared.schema.Tags.{Tags}
 use Rattle.asn1_schema.specs.declared.schema.Node.{Node}
 use Rattle.asn1_schema.specs.declared.schema.TypeTag.{TypeTag}
 use Rattle.asn1_schema.specs.declared.schema.Kind.{Kind}
 use Rattle.asn1_schema.specs.declared.schema.Kind.TheVariants as kinds
-use Rattle.asn1_schema.specs.Build.{IsAdded, IsOf, IsLike, IsTagged, IsUnbounded, IsRetagged, IsUnder, IsAddedOpen}
+use Rattle.asn1_schema.specs.Build.{universal, IsAdded, Puts, IsOf, IsLike, IsTagged, IsUnbounded, IsRetagged, IsUnder, IsDefined, PutsOpen, Tells, AreTagsOf}
 
 -- where the place and the types are as they should be
-pub is_added : {E : Type 0} (r : Result ℕ E) (old new : List Node) (node : Node) (P : Node → Type 0) →
-    IfOk r (λ place. place ≡ length old) → OnOk r (new ≡ old ++ node ∷ []) → P node →
-    IfOk r (λ place. IsAdded old new place P)
-is_added (Ok place) old new node P last all is = record { node = node; all = all; last = last; is = is }
-is_added (Err e) old new node P last all is = tt
+pub put_added : {E : Type 0} (r : Result ℕ E) (old new : List Node) (node : Node) (P : Node → Type 0) →
+    IfOk r (λ place. place ≡ length old) → OnOk r (new ≡ old ++ node ∷ []) → OnErr r (new ≡ old) → P node → Puts old new P r
+put_added (Ok place) old new node P last all stays is = record { node = node; all = all; last = last; is = is }
+put_added (Err e) old new node P last all stays is = stays
 
 -- where more is known of the tag and of the kind
-pub is_like : {E : Type 0} (r : Result ℕ E) (old new : List Node) (tag other : TypeTag) (kind : Kind) (P : Kind → Type 0) →
-    tag ≡ other → P kind → IfOk r (λ place. IsAdded old new place (IsOf tag kind)) →
-    IfOk r (λ place. IsAdded old new place (IsLike other P))
-is_like (Ok place) old new tag other kind P same is a = record {
+pub put_like : {E : Type 0} (r : Result ℕ E) (old new : List Node) (tag other : TypeTag) (kind : Kind) (P : Kind → Type 0) →
+    tag ≡ other → P kind → Puts old new (IsOf tag kind) r → Puts old new (IsLike other P) r
+put_like (Ok place) old new tag other kind P same is a = record {
   node = a.node;
   all = a.all;
   last = a.last;
   is = (subst (λ (t : TypeTag). IsTagged t a.node.tags) same a.is.0, subst P (sym a.is.1) is);
 }
-is_like (Err e) old new tag other kind P same is a = tt
+put_like (Err e) old new tag other kind P same is a = a
 
 -- what is in the table has a type
-pub at_place : (xs : List Node) (n : ℕ) → n < length xs → (x : Node) × (slice_get xs n ≡ Some x)
+at_place : (xs : List Node) (n : ℕ) → n < length xs → (x : Node) × (slice_get xs n ≡ Some x)
 at_place [] n h = absurd (omega arith)
 at_place (x ∷ xs) zero h = (x, refl)
 at_place (x ∷ xs) (suc n) h = at_place xs n (omega arith)
@@ -52,7 +52,7 @@ bounds_retagged of inner was l u t place is same =
 -- the type was put behind the others under the tag
 pub is_under : {E : Type 0} (r : Result ℕ E) (old mid new : List Node) (was : Node) (tag : TypeTag) (of : ℕ) (kind : Kind) →
     slice_get old of ≡ Some was → IsRetagged of (length mid - 1) was.kind kind →
-    IfOk r (λ place. IsAdded mid new place (IsOf tag kind)) → IfOk r (λ place. IsUnder old new place tag of)
+    Puts mid new (IsOf tag kind) r → IfOk r (λ place. IsUnder old new place tag of)
 is_under (Ok place) old mid new was tag of kind known same a = record {
   was = was;
   node = a.node;
@@ -76,13 +76,29 @@ last_place old new place tag of a =
     omega (arith, size, more, last)
 
 -- a type behind one of unknown elements
-pub is_open : {E : Type 0} (r : Result ℕ E) (old mid new : List Node) (unknown : ℕ) (P : ℕ → Node → Type 0) →
-    IsAdded old mid unknown (λ node. node.kind ≡ kinds.Any) →
-    IfOk r (λ place. IsAdded mid new place (P unknown)) → IfOk r (λ place. IsAddedOpen old new place P)
-is_open (Ok place) old mid new unknown P first a = record {
+pub put_open : {E : Type 0} (r : Result ℕ E) (old mid new : List Node) (unknown : ℕ) (ts : Tags) (told : List ℕ)
+    (P : ℕ → Node → Type 0) → AreTagsOf old told ts → IsAdded old mid unknown (λ node. (node.kind ≡ kinds.Any) ×
+    Tells (λ id. not (has_tag ts id || is_tag_of id (universal 0))) node.tags) → Puts mid new (P unknown) r →
+    PutsOpen old new told P r
+put_open (Ok place) old mid new unknown ts told P are first a = record {
   unknown = first.node;
-  is_any = first.is;
+  is_any = first.is.0;
+  apart = λ id. first.is.1 id ∙ ap (λ (b : Bool). not (b || is_tag_of id (universal 0))) (are id);
   added = subst (λ (xs : List Node). IsAdded xs new place (P (length old))) first.all
       (subst (λ (n : ℕ). IsAdded mid new place (P n)) first.last a);
 }
-is_open (Err e) old mid new unknown P first a = tt
+put_open (Err e) old mid new unknown ts told P are first a = (first.node ∷ [], a ∙ first.all)
+
+-- what is no bounds is unbounded
+pub no_bounds : (kind : Kind) → ((t : ℕ) (l u : Option ℤ) → kind ≡ kinds.Within t l u → ⊥) → IsUnbounded kind
+no_bounds (kinds.Within t l u) none = none t l u refl
+no_bounds kind none = tt
+
+-- a declared type is defined
+pub is_defined : (old new : List Node) (place of : ℕ) (was : Node) (kind : Kind) → place < length old →
+    slice_get old of ≡ Some was → IsRetagged of of was.kind kind →
+    ((declared : Node) → slice_get old place ≡ Some declared →
+    new ≡ slice_set old place (record declared { kind = kind })) → IsDefined old new place of
+is_defined old new place of was kind within known same set =
+    let at = at_place old place within in
+    record { declared = at.0; was = was; kind = kind; hole = at.1; known = known; same = same; all = set at.0 at.1 }

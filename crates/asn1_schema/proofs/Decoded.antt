@@ -1,15 +1,18 @@
 -- What is decoded, and what is not.
-use Rattle.std.proofs.Common.{◌≡◌, ◌∙◌, ap, sym, subst, inl, inr, ℕ, ◌<◌, List, [], ◌++◌, append-nil, length}
+use Rattle.std.proofs.Common.{◌≡◌, ◌≢◌, ◌∙◌, ap, sym, subst, refl, arith, inl, inr, ℕ, ◌+◌, ◌≤◌, ◌<◌, List, [], ◌++◌, append-nil, length}
 use Rattle.std.specs.Prelude.{Some, None, Err}
 use Rattle.x690.specs.Joined.{NoFront}
 use Rattle.asn1_schema.specs.declared.coding.Coding.{Coding}
+use Rattle.asn1_schema.specs.declared.coding.Coding.TheVariants as codings
 use Rattle.asn1_schema.specs.declared.fault.Fault.{Fault}
 use Rattle.asn1_schema.specs.declared.fault.Fault.TheVariants as faults
 use Rattle.asn1_schema.specs.declared.schema.Node.{Node}
 use Rattle.asn1_schema.specs.declared.tape.Item.{Item}
+use Rattle.asn1_schema.specs.Values.{Value}
 use Rattle.asn1_schema.specs.Tape.{marks, value_of, tape_of}
 use Rattle.asn1_schema.specs.Reading.{rules_of, IsWordOf, BeginsWord, ReadsFront, PutsFront, HasNoFront}
-use Rattle.asn1_schema.specs.Decoding.{Decodes, DecodesWhole, IsFollowed, EndsWithin, TellsMissing}
+use Rattle.asn1_schema.specs.Decoding.{HasNoWord, Decodes, DecodesWhole, IsFollowed, EndsWithin, TellsMissing}
+use Rattle.asn1_schema.proofs.StrictIsBer.{der_deeper, ber_deeper}
 use Rattle.asn1_schema.proofs.Taken.{refused_last, lawful_of}
 
 -- A word of a type is an element.
@@ -28,9 +31,10 @@ module _ (e : Coding) (table : List Node) (depth t : ℕ) (octets : List ℕ) wh
   none_decoded none = λ word rest v begins w. none v rest (record { word = word; says = w; is = begins })
 
   pub not_decoded : (old new : List Item) (fault : Fault) → ReadsFront (BeginsWord e table depth t octets) old new (Err fault) →
-      fault ≡ faults.Refused → NoFront (IsWordOf e table depth t) octets
-  not_decoded old new fault a is = none_decoded
-      (subst (λ (z : Fault). ReadsFront (BeginsWord e table depth t octets) old new (Err z)) is a)
+      fault ≢ faults.Memory → NoFront (IsWordOf e table depth t) octets
+  not_decoded old new faults.Memory a some = absurd (some refl)
+  not_decoded old new faults.Refused a some = none_decoded a
+  not_decoded old new faults.TooDeep a some = none_decoded a
 
   no_element_no_word : (others : List ℕ) → NoFront (rules_of e).ElementOf (octets ++ others) →
       NoFront (IsWordOf e table depth t) (octets ++ others)
@@ -38,11 +42,14 @@ module _ (e : Coding) (table : List Node) (depth t : ℕ) (octets : List ℕ) wh
 
   -- a refusal is final
   pub refused_for_good : NoFront (IsWordOf e table depth t) octets →
-      TellsMissing (rules_of e).ElementOf (EndsWithin e octets) octets None → (EndsWithin e octets → ⊥) →
-      (others : List ℕ) → NoFront (IsWordOf e table depth t) (octets ++ others)
-  refused_for_good none (inl whole) ends others =
-      refused_last (rules_of e) (lawful_of e) table depth t octets others none whole
-  refused_for_good none (inr never) ends others = no_element_no_word others (never ends others)
+      TellsMissing (rules_of e).ElementOf (EndsWithin e octets) octets None →
+      HasNoWord (IsWordOf e table depth t) (EndsWithin e octets) octets
+  refused_for_good none tells = record { none = none; lasting = by_front tells }
+    where
+      by_front : TellsMissing (rules_of e).ElementOf (EndsWithin e octets) octets None → (EndsWithin e octets → ⊥) →
+          (others : List ℕ) → NoFront (IsWordOf e table depth t) (octets ++ others)
+      by_front (inl whole) ends others = refused_last (rules_of e) (lawful_of e) table depth t octets others none whole
+      by_front (inr never) ends others = no_element_no_word others (never ends others)
 
   -- so few octets do not suffice
   pub still_cut : (n : ℕ) → TellsMissing (rules_of e).ElementOf (EndsWithin e octets) octets (Some n) →
@@ -64,3 +71,16 @@ module _ (e : Coding) (table : List Node) (depth t : ℕ) (octets : List ℕ) wh
   pub followed : (rest : List ℕ) (tape : List Item) → (rest ≡ [] → ⊥) →
       Decodes (IsWordOf e table depth t) octets rest tape → IsFollowed (IsWordOf e table depth t) octets
   followed rest tape some d = record { value = value_of d.kept; rest = rest; front = d.front; some = some }
+
+word_deeper : (e : Coding) (table : List Node) (d f t : ℕ) → d ≤ f → (o : List ℕ) (v : Value) → IsWordOf e table d t o v →
+    IsWordOf e table f t o v
+word_deeper codings.Der table d f t l o v a = der_deeper table d f t l o v a
+word_deeper (codings.Ber max) table d f t l o v a = ber_deeper table max d f t l o v a
+
+-- what is refused is refused to each depth
+pub no_depth_decodes : (e : Coding) (table : List Node) (depth t : ℕ) (octets : List ℕ) (old new : List Item) →
+    ((d : ℕ) → depth ≤ d → ReadsFront (BeginsWord e table d t octets) old new (Err faults.Refused)) → (d : ℕ) →
+    NoFront (IsWordOf e table d t) octets
+no_depth_decodes e table depth t octets old new none d = λ word rest v is w.
+    none_decoded e table (d + depth) t octets (none (d + depth) (omega arith)) word rest v is
+    (word_deeper e table d (d + depth) t (omega arith) word v w)

@@ -13,6 +13,7 @@ pub mod OneTape
 pub mod Arms
 pub mod ClosedRows
 pub mod ElementParts
+pub mod Depths
 pub mod Taken
 pub mod TakenRows
 pub mod TakenPieces
@@ -29,7 +30,9 @@ pub mod LargeNumbers
 pub mod NamedBits
 pub mod Cursors
 pub mod Builds
+pub mod BuiltTags
 pub mod NamedParts
 pub mod ZerosTaken
 pub mod TextFronts
 pub mod TrimmedPieces
+pub mod StringOctets

@@ -1,23 +1,22 @@
 -- The texts of times, read from their front.
-use Rattle.std.proofs.Common.{◌≡◌, ◌≢◌, ◌∙◌, ◌↔◌, ap, sym, subst, refl, ℕ, zero, suc, ◌+◌, ◌-◌, ◌*◌, ◌/◌, ◌%◌, ◌<◌, ◌≤◌, ◌⊎◌, inl, inr, Bool, true, false, IsTrue, List, [], ◌∷◌, ◌++◌, append_assoc, append-nil, arith}
-use Rattle.std.specs.Prelude.{Option, Some, None, IfSome, IsSomeAnd}
+use Rattle.std.proofs.Common.{◌≡◌, ◌≢◌, ◌∙◌, ◌↔◌, ap, sym, subst, refl, ℕ, ◌+◌, ◌-◌, ◌*◌, ◌/◌, ◌%◌, ◌<◌, ◌≤◌, ◌⊎◌, inl, inr, Bool, true, false, IsTrue, List, [], ◌∷◌, ◌++◌, append_assoc, arith}
+use Rattle.std.specs.Prelude.{Option, Some, None, IfSome}
 use Rattle.std.specs.List.{list_all}
 use Rattle.std.specs.Char.{is_ascii_digit}
 use Rattle.std.proofs.lemmas.Bool.{and_parts}
 use Rattle.std.proofs.lemmas.Bool.Decides.{nat_tests}
 use Rattle.std.proofs.lemmas.List.Folds.{list_all-append}
 use Rattle.x690.specs.Sets.{AllIn}
-use Rattle.x690.specs.Times.{digits, z_text, to_minute, InRange, east, west, SaysZone, SaysZoneOrNone}
+use Rattle.x690.specs.Times.{digits, to_minute, InRange, east, west, SaysZone, SaysZoneOrNone}
 use Rattle.x690.specs.Laws.Times.Digits.{digits_split, HasNoDigit}
 use Rattle.x690.specs.declared.times.Moment.{Moment}
 use Rattle.x690.specs.declared.times.TimeZone.{TimeZone}
 use Rattle.x690.specs.declared.times.TimeZone.TheVariants.{Undefined, Z}
-use Rattle.asn1_schema.specs.declared.schema.TimeKind.{TimeKind}
 use Rattle.asn1_schema.specs.declared.schema.TimeKind.TheVariants as times
 use Rattle.asn1_schema.specs.declared.joined.Joined.{Joined}
 use Rattle.asn1_schema.specs.Joined.{said}
 use Rattle.asn1_schema.specs.Rules.{IsTime, IsFraction, IsZone}
-use Rattle.asn1_schema.specs.Moments.{Then, ThenHour, IsEnd, IsRest, IsMinutes, IsOffset, IsZoneText, IsLocal, IsFractionEnd, IsSecondEnd, IsMinuteEnd, IsUtcEnd, IsMomentText, IsDigitsBefore, IsFractionBefore}
+use Rattle.asn1_schema.specs.Moments.{Then, ThenHour, IsRest, IsZoneText, IsLocal, IsFractionEnd, IsMinuteEnd, IsUtcEnd, IsMomentText, IsDigitsBefore, IsFractionBefore}
 
 -- two digits, and what follows them
 pub then_rest : (most : ℕ) (Q : List ℕ → Type 0) (text : List ℕ) → Then most Q text →

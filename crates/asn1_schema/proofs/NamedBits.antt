@@ -1,20 +1,12 @@
 -- Bits with names have no zeros at the end.
-use Rattle.std.proofs.Common.{◌≡◌, ◌∙◌, ap, sym, subst, refl, ℕ, zero, suc, ◌-◌, ◌+◌, ◌*◌, ◌<◌, ◌≤◌, ◌/◌, ◌%◌, ◌↔◌, IsTrue, Bool, true, false, List, [], ◌∷◌, ◌++◌, length, arith, append_assoc, append-nil, take, inl, inr}
-use Rattle.std.specs.Prelude.{nat_eq, Result, Ok, Err}
-use Rattle.x690.specs.Elements.{Parts}
+use Rattle.std.proofs.Common.{◌≡◌, ◌∙◌, ap, sym, subst, refl, ℕ, zero, suc, ◌-◌, ◌+◌, ◌*◌, ◌<◌, ◌≤◌, ◌/◌, ◌%◌, ◌↔◌, IsTrue, Bool, true, false, List, [], ◌∷◌, ◌++◌, length, arith, append_assoc, append-nil, take}
+use Rattle.std.specs.Prelude.{nat_eq}
 use Rattle.asn1_schema.specs.declared.coding.Coding.{Coding}
 use Rattle.asn1_schema.specs.declared.coding.Coding.TheVariants as codings
-use Rattle.asn1_schema.specs.declared.fault.Fault.{Fault}
-use Rattle.asn1_schema.specs.declared.fault.Fault.TheVariants as faults
-use Rattle.asn1_schema.specs.declared.schema.Node.{Node}
-use Rattle.asn1_schema.specs.declared.tape.Item.{Item}
-use Rattle.asn1_schema.specs.declared.schema.Kind.TheVariants as kinds
-use Rattle.asn1_schema.specs.Values.{Value, bits, leaf}
-use Rattle.asn1_schema.specs.Reading.{rules_of, IsOfKind, Judges}
+use Rattle.asn1_schema.specs.Reading.{rules_of}
 use Rattle.std.proofs.lemmas.List.{take-append-le, take_all, length-append}
-use Rattle.std.proofs.Math.Seq.{take-append_seam}
-use Rattle.asn1_schema.specs.Grammar.{digits_2, bits_in, trimmed, in_front_of, IsBitContent, IsString, of_bits}
-use Rattle.asn1_schema.specs.Bits.{bit_at, used_bits, IsNamed}
+use Rattle.asn1_schema.specs.Grammar.{digits_2, bits_in, trimmed, in_front_of}
+use Rattle.asn1_schema.specs.Bits.{bit_at, used_bits}
 use Rattle.asn1_schema.proofs.BitContents.{digits_length, bits_length}
 use Rattle.asn1_schema.proofs.UnusedBits.{bits_append}
 

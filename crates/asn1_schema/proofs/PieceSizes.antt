@@ -1,6 +1,6 @@
 -- The size of a string in pieces is that of what they join to.
 use Rattle.std.proofs.Common.{◌≡◌, ◌∙◌, ap, sym, refl, ℕ, ◌+◌, List, [], ◌∷◌, ◌++◌, length, arith, length-append}
-use Rattle.std.specs.Prelude.{ℤ, pos, Bool, true, false, Option, Some, None, map, nat_le, ◌&&◌, not}
+use Rattle.std.specs.Prelude.{pos, Bool, true, false, Some, map, nat_le, ◌&&◌, not}
 use Rattle.asn1_schema.specs.declared.schema.TextKind.{TextKind}
 use Rattle.asn1_schema.specs.declared.schema.TextKind.TheVariants as texts
 use Rattle.asn1_schema.specs.Values.{bits, leaf, joined, leads, characters, measure}

@@ -1,6 +1,5 @@
 -- Strings say one value.
-use Rattle.std.proofs.Common.{◌≡◌, ◌∙◌, ap, sym, subst, refl, ℕ, zero, suc, inl, inr, Bool, true, false, List, [], ◌∷◌, ◌++◌, length, arith}
-use Rattle.std.proofs.lemmas.List.{length-append}
+use Rattle.std.proofs.Common.{◌≡◌, ◌∙◌, ap, sym, subst, refl, ℕ, zero, suc, inl, inr, Bool, true, false, List, ◌∷◌, length}
 use Rattle.x690.specs.Joined.{IsOneFront}
 use Rattle.x690.specs.Laws.Joined.{joined_same}
 use Rattle.x690.specs.Elements.{Parts}

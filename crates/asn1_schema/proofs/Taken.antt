@@ -1,7 +1,6 @@
 -- Values that are read.
 use Rattle.std.proofs.Common.{◌≡◌, ◌≢◌, ◌∙◌, ap, sym, subst, refl, ℕ, zero, suc, ◌+◌, ◌-◌, ◌<◌, inl, inr, Bool, true, false, List, [], ◌∷◌, ◌++◌, arith, append_assoc, length}
-use Rattle.std.specs.Prelude.{ℤ, Option, Some, None, slice_get, Result, Ok, Err, OnOk, IfOk, IfErr, IsErrOf}
-use Rattle.std.specs.Borrow.{Bor}
+use Rattle.std.specs.Prelude.{ℤ, Option, Some, None, slice_get, Result, Ok, Err, OnOk, IfErr}
 use Rattle.std.proofs.lemmas.Bool.{cases_lt}
 use Rattle.std.proofs.lemmas.List.{append-nil, length-append}
 use Rattle.std.specs.declared.vec.Vec.{Vec}
@@ -19,9 +18,10 @@ use Rattle.asn1_schema.specs.declared.schema.Kind.TheVariants as kinds
 use Rattle.asn1_schema.specs.declared.tape.Item.{Item}
 use Rattle.asn1_schema.specs.Values.{Value, Values, leaf, row, chosen, measure}
 use Rattle.asn1_schema.specs.Grammar.{Rules, has_tag, Says, Begins, AreItems, AnyOrder, KindBody, IsOfNode, Through, Body, Word, IsMeasured}
-use Rattle.asn1_schema.specs.Tape.{Kept, kept_leaf, kept_chosen, Mark, mark, marks, arm_mark, arm_end_mark, value_of, tape_of}
+use Rattle.asn1_schema.specs.Tape.{kept_leaf, kept_chosen, Mark, mark, marks, arm_mark, arm_end_mark, value_of, tape_of}
 use Rattle.asn1_schema.specs.Sound.{is_sound, HasTagAt, arms_told, all_before, leads_back}
 use Rattle.asn1_schema.specs.Reading.{rules_of, Judges, PutsValue, ReadsValue, JudgesBounds, PutsFront, HasNoFront, ReadsFront, BeginsTagged}
+use Rattle.asn1_schema.proofs.Depths.{unless, where_memory}
 use Rattle.asn1_schema.proofs.Bounded.{bounds_read}
 use Rattle.asn1_schema.proofs.Tags.{node_order, one_arm}
 use Rattle.asn1_schema.proofs.Strings.{AreLawfulRules}
@@ -52,8 +52,7 @@ leaf_read P old new item (Ok x) j ok err = record {
   holds = j.2;
   is = ok ∙ ap (λ (z : Mark). marks old ++ z ∷ []) j.1;
 }
-leaf_read P old new item (Err faults.Memory) j ok err = tt
-leaf_read P old new item (Err faults.Refused) j ok err = absurd (cc)
+leaf_read P old new item (Err e) j ok err = where_memory e ((v : Value) → P v → ⊥) err
 
 pub leaf_put : {T : Type 0} (P : Value → Type 0) (judged : Result Item Fault) (old new : List Item) (r : Result T Fault) →
     Judges P judged → ((item : Item) → judged ≡ Ok item →
@@ -62,34 +61,29 @@ pub leaf_put : {T : Type 0} (P : Value → Type 0) (judged : Result Item Fault) 
 leaf_put P (Ok item) old new r j put refused =
     let a = put item refl in
     leaf_read P old new item r j a.0 a.1
-leaf_put {T} P (Err faults.Memory) old new r j put refused =
-    subst (λ (x : Result T Fault). ReadsValue P old new x) (sym (refused faults.Memory refl)) tt
-leaf_put {T} P (Err faults.Refused) old new r j put refused =
-    subst (λ (x : Result T Fault). ReadsValue P old new x) (sym (refused faults.Refused refl)) j
+leaf_put {T} P (Err e) old new r j put refused =
+    subst (λ (x : Result T Fault). ReadsValue P old new x) (sym (refused e refl)) j
 
 pub no_leaf : (T : Type 0) (P : Value → Type 0) (old : List Item) (e : Fault) → Judges P (Err e) →
     ReadsValue {T = T} P old old (Err e)
-no_leaf T P old faults.Memory j = tt
-no_leaf T P old faults.Refused j = j
+no_leaf T P old e j = j
 
 pub no_value : (T : Type 0) (P Q : Value → Type 0) → ((v : Value) → Q v → P v) → (old : List Item) (e : Fault) →
     Judges P (Err e) → ReadsValue {T = T} Q old old (Err e)
-no_value T P Q f old faults.Memory j = tt
-no_value T P Q f old faults.Refused j = λ v q. j v (f v q)
+no_value T P Q f old e j = unless e ((v : Value) → P v → ⊥) ((v : Value) → Q v → ⊥) (λ n v q. n v (f v q)) j
 
 -- what is judged as one is judged as another with the same values
 pub judges_map : (P Q : Value → Type 0) → ((v : Value) → P v → Q v) → ((v : Value) → Q v → P v) →
     (r : Result Item Fault) → Judges P r → Judges Q r
 judges_map P Q f g (Ok item) j = (j.0, j.1, f (leaf j.0) j.2)
-judges_map P Q f g (Err faults.Memory) j = tt
-judges_map P Q f g (Err faults.Refused) j = λ v q. j v (g v q)
+judges_map P Q f g (Err e) j = unless e ((v : Value) → P v → ⊥) ((v : Value) → Q v → ⊥) (λ n v q. n v (g v q)) j
 
 -- what is read as one is read as another with the same values
 pub reads_map : {T : Type 0} (P Q : Value → Type 0) → ((v : Value) → P v → Q v) → ((v : Value) → Q v → P v) →
     (old new : List Item) (r : Result T Fault) → ReadsValue P old new r → ReadsValue Q old new r
 reads_map P Q f g old new (Ok x) a = record { kept = a.kept; holds = f (value_of a.kept) a.holds; is = a.is }
-reads_map P Q f g old new (Err faults.Memory) a = tt
-reads_map P Q f g old new (Err faults.Refused) a = λ v q. a v (g v q)
+reads_map P Q f g old new (Err e) a =
+    unless e ((v : Value) → P v → ⊥) ((v : Value) → Q v → ⊥) (λ n v q. n v (g v q)) a
 
 -- Types of a table, by their nodes.
 module _ (R : Rules) (table : List Node) where
@@ -137,6 +131,19 @@ module _ (R : Rules) (table : List Node) where
       subst (λ (k : Kind). KindBody R (depth - 1) (Body R table (depth - 1))
       (Through R (depth - 1) (Body R table (depth - 1)) table t) k p v) (ap (λ (n : Node). n.kind) same ∙ is) down.body)
       old new result a
+
+  -- so what is judged as a leaf of its kind, and put
+  pub leaf_up : {T : Type 0} (depth t : ℕ) (p : Parts) (node : Node) (kind : Kind) (judged : Result Item Fault)
+      (old new : List Item) (r : Result T Fault) → depth ≢ 0 → slice_get table t ≡ Some node →
+      has_tag node.tags p.id ≡ true → node.kind ≡ kind →
+      Judges (KindBody R (depth - 1) (Body R table (depth - 1)) (Through R (depth - 1) (Body R table (depth - 1)) table t)
+      kind p) judged → ((item : Item) → judged ≡ Ok item →
+      OnOk r (marks new ≡ marks old ++ mark item ∷ []) × IfErr r (λ e. e ≡ faults.Memory)) →
+      ((e : Fault) → judged ≡ Err e → r ≡ Err e) → ReadsValue (Body R table depth t p) old new r
+  leaf_up depth t p node kind judged old new r some found tagged is j put refused =
+      reads_up depth t p node kind old new r some found tagged is (leaf_put (KindBody R (depth - 1)
+      (Body R table (depth - 1)) (Through R (depth - 1) (Body R table (depth - 1)) table t) kind p) judged old new r j put
+      refused)
 
   -- what is none of its kind is none of its type
   pub kind_refused : (depth t : ℕ) (p : Parts) (node : Node) (kind : Kind) → slice_get table t ≡ Some node →
@@ -211,8 +218,8 @@ module _ (R : Rules) (lawful : AreLawfulRules R) where
     pub front_refused : (T : Type 0) (octets rest : List ℕ) (p : Parts) (old mid new : List Item) (e : Fault) →
         Front R.ElementOf octets p rest → ReadsValue {T = T} (Sub p) old mid (Err e) →
         ReadsFront (Begins R Sub octets) old new (Err e)
-    front_refused T octets rest p old mid new faults.Memory f a = tt
-    front_refused T octets rest p old mid new faults.Refused f a = no_value_no_front octets rest p f a
+    front_refused T octets rest p old mid new e f a =
+        unless e ((v : Value) → Sub p v → ⊥) (HasNoFront (Begins R Sub octets)) (no_value_no_front octets rest p f) a
 
     -- the word that the octets are
     pub whole_read : (octets rest : List ℕ) (old new : List Item) → rest ≡ [] →
@@ -233,9 +240,9 @@ module _ (R : Rules) (lawful : AreLawfulRules R) where
 
     pub whole_refused : (T : Type 0) (octets : List ℕ) (old mid new : List Item) (e : Fault) →
         ReadsFront (Begins R Sub octets) old mid (Err e) → ReadsValue {T = T} (Says R Sub octets) old new (Err e)
-    whole_refused T octets old mid new faults.Memory a = tt
-    whole_refused T octets old mid new faults.Refused a = λ v b.
-        a v [] (record { word = octets; says = b; is = sym (append-nil octets) })
+    whole_refused T octets old mid new e a =
+        unless e (HasNoFront (Begins R Sub octets)) ((v : Value) → Says R Sub octets v → ⊥)
+        (λ n v b. n v [] (record { word = octets; says = b; is = sym (append-nil octets) })) a
 
     -- a word is the contents octets of an explicit tag
     pub explicit_read : {T : Type 0} (b : Bool) (octets : List ℕ) (old new : List Item) (r : Result T Fault) → b ≡ true →
@@ -265,21 +272,19 @@ module _ (R : Rules) (lawful : AreLawfulRules R) where
           ∙ (ap (λ (z : List Mark). z ++ arm_end_mark k ∷ []) (append_assoc (marks old) (arm_mark k ∷ []) (tape_of a.kept))
           ∙ append_assoc (marks old) (arm_mark k ∷ tape_of a.kept) (arm_end_mark k ∷ [])));
     }
-    arm_read p k t old mid made new (Err faults.Memory) found first a last err = tt
-    arm_read p k t old mid made new (Err faults.Refused) found first a last err = absurd (cc)
+    arm_read p k t old mid made new (Err e) found first a last err = where_memory e _ err
 
     pub arm_refused : (T U : Type 0) (p : Parts) (k t : ℕ) (old mid made new : List Item) (e : Fault) →
         arms_told table arms ≡ true → slice_get arms k ≡ Some t → HasTagAt table t p.id →
         ReadsValue {T = U} (Body R table depth t p) mid made (Err e) →
         ReadsValue {T = T} (λ v. (k : ℕ) × (w : Value) × (a : ℕ) × (v ≡ chosen k w) × (slice_get arms k ≡ Some a) ×
         Body R table depth a p w) old new (Err e)
-    arm_refused T U p k t old mid made new faults.Memory told found tagged a = tt
-    arm_refused T U p k t old mid made new faults.Refused told found tagged a = λ v b.
+    arm_refused T U p k t old mid made new e told found tagged a = unless e _ _ (λ n v b.
         let same : b.0 ≡ k = one_arm table arms b.0 k b.2 t p.id told b.4 found
         (tag_of_body R lawful table depth b.2 p b.1 b.5) tagged in
         let there : slice_get arms k ≡ Some b.2 = subst (λ (z : ℕ). slice_get arms z ≡ Some b.2) same b.4 in
         let type : b.2 ≡ t = cc in
-        a b.1 (subst (λ (z : ℕ). Body R table depth z p b.1) type b.5)
+        n b.1 (subst (λ (z : ℕ). Body R table depth z p b.1) type b.5)) a
 
   -- a value of an arm is one of the choice
   pub choice_read : {T : Type 0} (table : List Node) → is_sound table ≡ true → (depth t : ℕ) (node : Node)
@@ -306,23 +311,6 @@ arm_next P arms k before {u} e n j l t f h = elim (cases_lt j k) [
       let type : t ≡ u = cc in
       n (subst P type h)
 ]
-
--- The words of a type.
-pub decode_ok : (R : Rules) (table : List Node) (depth t : ℕ) (octets : List ℕ) (old new : List Item)
-    (result : Result (Bor (List ℕ)) Fault) → ReadsFront (Begins R (Body R table depth t) octets) old new result →
-    IfOk result (λ rest. (kept : Kept) × Front (Word R table depth t) octets (value_of kept) rest.now ×
-    (marks new ≡ marks old ++ tape_of kept))
-decode_ok R table depth t octets old new (Ok rest) a =
-    (a.kept, record { word = a.holds.word; fits = a.holds.says; is = a.holds.is }, a.is)
-decode_ok R table depth t octets old new (Err e) a = tt
-
-pub decode_refused : (R : Rules) (table : List Node) (depth t : ℕ) (octets : List ℕ) (old new : List Item)
-    (result : Result (Bor (List ℕ)) Fault) → ReadsFront (Begins R (Body R table depth t) octets) old new result →
-    IsErrOf result faults.Refused → NoFront (Word R table depth t) octets
-decode_refused R table depth t octets old new (Ok rest) a is = absurd (cc)
-decode_refused R table depth t octets old new (Err faults.Memory) a is = absurd (cc)
-decode_refused R table depth t octets old new (Err faults.Refused) a is = λ word rest v begins w.
-    a v rest (record { word = word; says = w; is = begins })
 
 -- Bounds: their type stands before them.
 module _ (R : Rules) (lawful : AreLawfulRules R) (table : List Node) (sound : is_sound table ≡ true) where

@@ -15,12 +15,13 @@ use Rattle.asn1_schema.specs.declared.tape.Item.TheVariants as items
 use Rattle.asn1_schema.specs.declared.pieces.Sort.{Sort}
 use Rattle.asn1_schema.specs.declared.pieces.Sort.TheVariants as sorts
 use Rattle.asn1_schema.specs.Values.{Value, leaf, joined}
-use Rattle.asn1_schema.specs.Grammar.{Rules, StringOf, Says, AllButLast, IsString, of_octets, of_bits}
+use Rattle.asn1_schema.specs.Grammar.{Rules, StringOf, Says, AllButLast, IsString}
 use Rattle.asn1_schema.specs.Tape.{of_octets as sort_of_octets, of_text, of_time, Kept, kept_leaf, kept_string, kept_bits, Mark, mark, marks, pieces_mark, pieces_end_mark, between, pieces, value_of, tape_of}
 use Rattle.asn1_schema.specs.Reading.{rules_of, ReadsValue}
 use Rattle.asn1_schema.specs.Pieces.{Elem, leaf_of, string_of, piece_mark, IsPiece, ArePieces, SaysPiece, PutsPieces, ReadsPieces, ClosesPieces}
 use Rattle.asn1_schema.proofs.Strings.{AreLawfulRules, HasOneContent, one_octets, one_bits, string_one}
 use Rattle.asn1_schema.proofs.OneValue.{same_front, some_octets}
+use Rattle.asn1_schema.proofs.Depths.{unless, where_memory}
 use Rattle.asn1_schema.proofs.Taken.{lawful_of}
 use Rattle.asn1_schema.proofs.ClosedRows.{marks_append, set_mark}
 
@@ -114,8 +115,8 @@ module _ (e : Coding) (s : Sort) where
       ReadsPieces e s P old new r → ReadsPieces e s Q old new r
   pieces_map P Q f g old new (Ok x) a =
       record { pieces = a.pieces; holds = f (joined a.pieces) a.holds; is = a.is; whole = a.whole }
-  pieces_map P Q f g old new (Err faults.Memory) a = tt
-  pieces_map P Q f g old new (Err faults.Refused) a = λ xs q. a xs (g xs q)
+  pieces_map P Q f g old new (Err x) a =
+      unless x ((xs : List (Elem s)) → P xs → ⊥) ((xs : List (Elem s)) → Q xs → ⊥) (λ n xs q. n xs (g xs q)) a
 
   -- one piece
   pub piece_put : (P : List (Elem s) → Type 0) (octets : List ℕ) (item : Item) (follow : Bool) (old new : List Item) →
@@ -130,8 +131,7 @@ module _ (e : Coding) (s : Sort) where
 
   pub piece_unput : (P : List (Elem s) → Type 0) (old new : List Item) (f : Fault) → f ≡ faults.Memory →
       ReadsPieces e s P old new (Err f)
-  piece_unput P old new faults.Memory e = tt
-  piece_unput P old new faults.Refused e = absurd (cc)
+  piece_unput P old new f is = where_memory f ((xs : List (Elem s)) → P xs → ⊥) is
 
   -- Some pieces were put on the tape. Others follow only where they may.
   pub record PiecesSoFar (Now All : List (Elem s) → Type 0) (rest : List ℕ) (follow : Bool) (old new : List Item) : Type 0 where
@@ -224,15 +224,16 @@ module _ (e : Coding) (s : Sort) (depth : ℕ) (All : List (Elem s) → Type 0) 
   pub piece_refused : (tail : List ℕ) (p : Parts) (new : List Item) (x : Fault) →
       (rest ≡ [] → ⊥) → Front (rules_of e).ElementOf rest p tail →
       ReadsPieces e s (IsPiece e (string_of e s) depth p) mid new (Err x) → ReadsPieces e s All old new (Err x)
-  piece_refused tail p new faults.Memory some f a = tt
-  piece_refused tail p new faults.Refused some f a = λ xs b. let c = so.back xs b in by_pieces c.1.0 c.1.3
+  piece_refused tail p new x some f a =
+      unless x ((xs : List (Elem s)) → IsPiece e (string_of e s) depth p xs → ⊥) ((xs : List (Elem s)) → All xs → ⊥)
+      (λ n xs b. let c = so.back xs b in by_pieces n c.1.0 c.1.3) a
     where
-      by_pieces : (pieces : List (List (Elem s))) →
+      by_pieces : ((xs : List (Elem s)) → IsPiece e (string_of e s) depth p xs → ⊥) → (pieces : List (List (Elem s))) →
           IsJoined (Says (rules_of e) (IsPiece e (string_of e s) depth)) rest pieces → ⊥
-      by_pieces [] c = some c
-      by_pieces (x ∷ pieces) c =
+      by_pieces n [] c = some c
+      by_pieces n (x ∷ pieces) c =
           let u = same_front (rules_of e) lawful rest c.0 f.word c.1 tail c.2.parts p c.2.element f.fits c.3 f.is in
-          a x (subst (λ (z : Parts). IsPiece e (string_of e s) depth z x) u.0 c.2.value)
+          n x (subst (λ (z : Parts). IsPiece e (string_of e s) depth z x) u.0 c.2.value)
 
   pub no_piece : (rest ≡ [] → ⊥) → NoFront (rules_of e).ElementOf rest → (xs : List (Elem s)) → All xs → ⊥
   no_piece some n xs b = let c = so.back xs b in by_pieces c.1.0 c.1.3
@@ -317,14 +318,14 @@ closed_read s P Q up old mid made new (Ok x) opened os holds is closed err =
     let c = closed (marks old) os ((is ∙ ap (λ (z : List Mark). z ++ map (piece_mark s) os) opened)
     ∙ append_assoc (marks old) (pieces_mark 0 ∷ []) (map (piece_mark s) os)) refl in
     record { kept = c.kept; holds = subst P (sym c.value) (up (joined os) holds); is = c.is }
-closed_read s P Q up old mid made new (Err faults.Memory) opened os holds is closed err = tt
-closed_read s P Q up old mid made new (Err faults.Refused) opened os holds is closed err = absurd (cc)
+closed_read s P Q up old mid made new (Err e) opened os holds is closed err =
+    where_memory e ((v : Value) → P v → ⊥) err
 
 pub pieces_refused : (e : Coding) (s : Sort) (T : Type 0) (P : Value → Type 0) (Q : List (Elem s) → Type 0) →
     ((v : Value) → P v → (xs : List (Elem s)) × Q xs) → (old mid made new : List Item) (x : Fault) →
     ReadsPieces e s Q mid made (Err x) → ReadsValue {T = T} P old new (Err x)
-pieces_refused e s T P Q down old mid made new faults.Memory a = tt
-pieces_refused e s T P Q down old mid made new faults.Refused a = λ v b. let o = down v b in a o.0 o.1
+pieces_refused e s T P Q down old mid made new x a =
+    unless x ((xs : List (Elem s)) → Q xs → ⊥) ((v : Value) → P v → ⊥) (λ n v b. let o = down v b in n o.0 o.1) a
 
 pub place_of_pieces : (s : Sort) (old mid made : List Item) (os : List (List (Elem s))) (place : ℕ) → place ≡ length old →
     marks mid ≡ marks old ++ pieces_mark 0 ∷ [] → marks made ≡ marks mid ++ map (piece_mark s) os → place < length made

@@ -19,6 +19,7 @@ use Rattle.asn1_schema.specs.Grammar.{Rules, Says, Begins, AreEach, AreItems, An
 use Rattle.asn1_schema.specs.Tape.{KeptRow, kept_row, kept_none, kept_absent, kept_more, Mark, marks, begin_mark, end_mark, absent_mark, between, value_of, values_of, tape_of, tapes_of}
 use Rattle.asn1_schema.specs.Sound.{HasTagAt, node_at, field_told, fields_told, may_be_left_out}
 use Rattle.asn1_schema.specs.Reading.{PutsValue, ReadsValue, PutsRow, ReadsRow, PutsFront, HasNoFront, ReadsFront, BeginsTagged, Leaves, LeavesOut, MayNot, IsMissing, ReadsField}
+use Rattle.asn1_schema.proofs.Depths.{unless, where_memory}
 use Rattle.asn1_schema.proofs.Tags.{first_holds, of_optional}
 use Rattle.asn1_schema.proofs.Strings.{AreLawfulRules}
 use Rattle.asn1_schema.proofs.OneValue.{HasItsTag, same_front, some_octets, no_next, there_begins, left_rest, left_may}
@@ -93,8 +94,8 @@ ended Now Whole old mid new (Ok x) s a = record {
   holds = subst Whole (sym (values_join s.done a.kept)) (s.onward (values_of a.kept) a.holds);
   is = grown old mid new s.done a.kept s.is a.is;
 }
-ended Now Whole old mid new (Err faults.Memory) s a = tt
-ended Now Whole old mid new (Err faults.Refused) s a = λ vs w. let b = s.back vs w in a b.0 b.1
+ended Now Whole old mid new (Err e) s a =
+    unless e ((vs : Values) → Now vs → ⊥) ((vs : Values) → Whole vs → ⊥) (λ n vs w. let b = s.back vs w in n b.0 b.1) a
 
 refused : (Now Whole : Values → Type 0) (old new : List Item) → SoFar Now Whole old new →
     ((ws : Values) → Now ws → ⊥) → (vs : Values) → Whole vs → ⊥
@@ -113,14 +114,12 @@ row_read b Q old mid made new place (Ok x) constructed at opened a closed err = 
   is = closed (marks old) (tapes_of a.kept)
       ((a.is ∙ ap (λ (z : List Mark). z ++ tapes_of a.kept) opened) ∙ append_assoc (marks old) (begin_mark 0 ∷ []) (tapes_of a.kept)) at;
 }
-row_read b Q old mid made new place (Err faults.Memory) constructed at opened a closed err = tt
-row_read b Q old mid made new place (Err faults.Refused) constructed at opened a closed err = absurd (cc)
+row_read b Q old mid made new place (Err e) constructed at opened a closed err = where_memory e _ err
 
 pub row_refused : (T U : Type 0) (b : Bool) (Q : Values → Type 0) (old mid made new : List Item) (e : Fault) →
     ReadsRow {T = U} Q mid made (Err e) →
     ReadsValue {T = T} (λ v. (vs : Values) × (v ≡ row vs) × (b ≡ true) × Q vs) old new (Err e)
-row_refused T U b Q old mid made new faults.Memory a = tt
-row_refused T U b Q old mid made new faults.Refused a = λ v w. a w.0 w.3
+row_refused T U b Q old mid made new e a = unless e ((vs : Values) → Q vs → ⊥) _ (λ n v w. n w.0 w.3) a
 
 -- where a row begins, its place is on the tape
 pub place_within : (old mid made : List Item) (Q : Values → Type 0) (place : ℕ) → place ≡ length (marks old) →
@@ -174,9 +173,9 @@ module _ (R : Rules) (lawful : AreLawfulRules R) where
     pub items_refused : (T : Type 0) (Whole : Values → Type 0) (rest : List ℕ) (old mid new : List Item) (e : Fault) →
         (rest ≡ [] → ⊥) → SoFar (AreItems R Sub AnyOrder rest) Whole old mid →
         ReadsFront (Begins R Sub rest) mid new (Err e) → ReadsRow {T = T} Whole old new (Err e)
-    items_refused T Whole rest old mid new faults.Memory some s a = tt
-    items_refused T Whole rest old mid new faults.Refused some s a =
-        refused (AreItems R Sub AnyOrder rest) Whole old mid s (no_items rest some a)
+    items_refused T Whole rest old mid new e some s a =
+        unless e (HasNoFront (Begins R Sub rest)) ((vs : Values) → Whole vs → ⊥)
+        (λ n. refused (AreItems R Sub AnyOrder rest) Whole old mid s (no_items rest some n)) a
 
     pub items_done : (Whole : Values → Type 0) (rest : List ℕ) (old mid : List Item) → rest ≡ [] →
         SoFar (AreItems R Sub AnyOrder rest) Whole old mid → PutsRow Whole old mid
@@ -318,11 +317,11 @@ module _ (R : Rules) (lawful : AreLawfulRules R) where
         fields_told table unknown left ≡ true → SoFar (AreFields R Sub unknown left rest) Whole old mid →
         ReadsField R (Sub f.of) (BeginsTagged R table f.of rest) f.presence rest mid new (Err e) →
         ReadsRow {T = T} Whole old new (Err e)
-    fields_refused T unknown Whole left f fs rest old mid new faults.Memory is told s m = tt
-    fields_refused T unknown Whole left f fs rest old mid new faults.Refused is told s m =
-        refused (AreFields R Sub unknown (f ∷ fs) rest) Whole old mid
+    fields_refused T unknown Whole left f fs rest old mid new e is told s m =
+        unless e (IsMissing R (Sub f.of) (BeginsTagged R table f.of rest) f.presence rest) ((vs : Values) → Whole vs → ⊥)
+        (λ n. refused (AreFields R Sub unknown (f ∷ fs) rest) Whole old mid
         (subst (λ (z : List Field). SoFar (AreFields R Sub unknown z rest) Whole old mid) is s)
-        (no_fields unknown f fs rest (subst (λ (z : List Field). fields_told table unknown z ≡ true) is told) m)
+        (no_fields unknown f fs rest (subst (λ (z : List Field). fields_told table unknown z ≡ true) is told) n)) m
 
     -- the unknown elements behind the fields
     pub fields_ended : {T : Type 0} (unknown : Option ℕ) (Whole : Values → Type 0) (left : List Field) (rest : List ℕ)
@@ -363,12 +362,14 @@ module _ (R : Rules) (lawful : AreLawfulRules R) where
         (old mid new : List Item) (e : Fault) → Front R.ElementOf octets p rest → HasTagAt table t p.id →
         ReadsValue {T = T} (Sub t p) old mid (Err e) →
         ReadsField R (Sub t) (BeginsTagged R table t octets) presence octets old new (Err e)
-    field_refused T presence t octets rest p old mid new faults.Memory f h a = tt
-    field_refused T presence t octets rest p old mid new faults.Refused f h a = record {
-      none = λ v r b. let u = same_front R lawful octets b.word f.word r rest b.says.parts p b.says.element f.fits b.is f.is in
-          a v (subst (λ (z : Parts). Sub t z v) u.0 b.says.value);
-      why = inl (record { word = f.word; rest = rest; parts = p; element = f.fits; is = f.is; tagged = h });
-    }
+    field_refused T presence t octets rest p old mid new e f h a =
+        unless e ((v : Value) → Sub t p v → ⊥) (IsMissing R (Sub t) (BeginsTagged R table t octets) presence octets)
+        (λ n. record {
+          none = λ v r b.
+              let u = same_front R lawful octets b.word f.word r rest b.says.parts p b.says.element f.fits b.is f.is in
+              n v (subst (λ (z : Parts). Sub t z v) u.0 b.says.value);
+          why = inl (record { word = f.word; rest = rest; parts = p; element = f.fits; is = f.is; tagged = h });
+        }) a
 
     pub no_tag : (t : ℕ) (octets : List ℕ) → (BeginsTagged R table t octets → ⊥) → HasNoFront (Begins R (Sub t) octets)
     no_tag t octets n v rest b = n (begun t octets v rest b)
@@ -377,8 +378,7 @@ module _ (R : Rules) (lawful : AreLawfulRules R) where
         (old mid new : List Item) (e : Fault) → presence ≡ presences.Default d → (BeginsTagged R table t octets → ⊥) →
         ReadsValue {T = T} (Says R (Sub t) d.items) old mid (Err e) →
         ReadsField R (Sub t) (BeginsTagged R table t octets) presence octets old new (Err e)
-    field_default T presence d t octets old mid new faults.Memory is n a = tt
-    field_default T presence d t octets old mid new faults.Refused is n a = record {
-      none = no_tag t octets n;
-      why = inr (subst (MayNot R (Sub t)) (sym is) a);
-    }
+    field_default T presence d t octets old mid new e is n a =
+        unless e ((v : Value) → Says R (Sub t) d.items v → ⊥)
+        (IsMissing R (Sub t) (BeginsTagged R table t octets) presence octets)
+        (λ m. record { none = no_tag t octets n; why = inr (subst (MayNot R (Sub t)) (sym is) m) }) a

@@ -1,5 +1,5 @@
 -- Zeros are taken off the end of bits in pieces.
-use Rattle.std.proofs.Common.{◌≡◌, ◌≢◌, ◌∙◌, ap, sym, subst, refl, ℕ, zero, suc, ◌+◌, ◌-◌, ◌*◌, ◌<◌, ◌≤◌, Bool, true, false, List, [], ◌∷◌, ◌++◌, length, take, arith, append_assoc, append-nil, length-append}
+use Rattle.std.proofs.Common.{◌≡◌, ◌≢◌, ◌∙◌, ap, sym, refl, ℕ, ◌+◌, ◌-◌, ◌*◌, ◌<◌, ◌≤◌, Bool, true, false, List, [], ◌∷◌, ◌++◌, length, take, arith, append_assoc, append-nil, length-append}
 use Rattle.std.specs.Prelude.{map, slice_set, get_or}
 use Rattle.std.specs.Borrow.{Bor}
 use Rattle.std.proofs.Math.Seq.{take-nil}
@@ -7,9 +7,9 @@ use Rattle.std.proofs.lemmas.List.{map-append, length-map, take_more, take_all, 
 use Rattle.asn1_schema.specs.declared.tape.Item.{Item}
 use Rattle.asn1_schema.specs.declared.tape.Item.TheVariants as items
 use Rattle.asn1_schema.specs.declared.pieces.Sort.TheVariants as sorts
-use Rattle.asn1_schema.specs.Values.{bits, joined}
+use Rattle.asn1_schema.specs.Values.{joined}
 use Rattle.asn1_schema.specs.Grammar.{trimmed, in_front_of}
-use Rattle.asn1_schema.specs.Tape.{Mark, mark, marks, leaf_mark}
+use Rattle.asn1_schema.specs.Tape.{Mark, mark, marks}
 use Rattle.asn1_schema.specs.Bits.{used_bits, TrimsPieces}
 use Rattle.asn1_schema.specs.Pieces.{piece_mark}
 use Rattle.asn1_schema.proofs.SameParts.{same_last}

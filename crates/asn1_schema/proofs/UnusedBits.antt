@@ -1,5 +1,5 @@
 -- Unused bits.
-use Rattle.std.proofs.Common.{◌≡◌, ◌≢◌, ◌∙◌, ap, sym, subst, refl, ℕ, zero, suc, ◌+◌, ◌-◌, ◌*◌, ◌<◌, ◌≤◌, inl, inr, Bool, true, false, List, [], ◌∷◌, ◌++◌, length, arith, append_assoc, take, drop, append-nil}
+use Rattle.std.proofs.Common.{◌≡◌, ◌≢◌, ◌∙◌, ap, sym, subst, refl, ℕ, zero, suc, ◌+◌, ◌-◌, ◌*◌, ◌<◌, ◌≤◌, Bool, false, List, [], ◌∷◌, ◌++◌, length, arith, append_assoc, take, drop, append-nil}
 use Rattle.std.specs.Prelude.{◌/◌, ◌%◌, nat_eq, replicate}
 use Rattle.std.proofs.Math.Seq.{drop-append-add}
 use Rattle.std.proofs.lemmas.List.{drop-append-le, drop_all, replicate_more, length-drop, length-append, take-append-drop, drop_at}
@@ -7,12 +7,8 @@ use Rattle.x690.specs.Octets.{IsOctets}
 use Rattle.asn1_schema.specs.declared.coding.Coding.{Coding}
 use Rattle.asn1_schema.specs.declared.coding.Coding.TheVariants as codings
 use Rattle.asn1_schema.specs.Grammar.{IsBitContent, digits_2, bits_in}
-use Rattle.asn1_schema.specs.Reading.{rules_of, IsOfKind}
+use Rattle.asn1_schema.specs.Reading.{rules_of}
 use Rattle.asn1_schema.specs.Bits.{LowZero, MayBeUnused}
-use Rattle.x690.specs.Elements.{Parts}
-use Rattle.asn1_schema.specs.declared.schema.Node.{Node}
-use Rattle.asn1_schema.specs.declared.schema.Kind.TheVariants as kinds
-use Rattle.asn1_schema.specs.Values.{Value, bits, leaf}
 use Rattle.asn1_schema.proofs.BitContents.{digits_length, bits_length}
 use Rattle.asn1_schema.proofs.SameParts.{same_last}
 

@@ -2,7 +2,7 @@
 use Rattle.std.proofs.Common.{◌≡◌, ◌∙◌, ap, sym, refl, inl, inr, ℕ, zero, suc, ◌+◌, ◌-◌, ◌*◌, ◌<◌, ◌≤◌, ◌/◌, ◌%◌, Bool, true, false, List, [], ◌∷◌, ◌++◌, length, get_or, take, arith, append_assoc, append-nil, length-append}
 use Rattle.std.proofs.lemmas.Bool.{cases_lt}
 use Rattle.std.specs.Prelude.{nat_eq, Option, Some, None, IfSome, IfNone}
-use Rattle.std.proofs.lemmas.List.{take-append-le, take_all, take_more, length-take-le}
+use Rattle.std.proofs.lemmas.List.{take-append-le, take_all, take_more}
 use Rattle.std.proofs.Math.Seq.{take-append-add}
 use Rattle.asn1_schema.specs.Grammar.{digits_2, bits_in, trimmed, in_front_of}
 use Rattle.asn1_schema.specs.Bits.{bit_at, used_bits, first_bits}

@@ -1,5 +1,8 @@
 -- What the calls that build a table put into it.
-use Rattle.std.specs.Prelude.{ℕ, ℤ, List, [], ◌∷◌, ◌++◌, length, ◌≡◌, Bool, Option, Some, slice_get, slice_set, map, ◌-◌}
+use Rattle.std.specs.Prelude.{ℕ, ℤ, List, [], ◌∷◌, ◌++◌, length, ◌≡◌, Bool, Option, Some, None, Result, Ok, Err, slice_get, slice_set, map, not, true, false, ◌||◌, ◌-◌, if◌then◌else◌}
+use Rattle.std.specs.List.{list_any, list_all}
+use Rattle.x690.specs.Identifiers.{Identifier}
+use Rattle.asn1_schema.specs.Grammar.{has_tag, is_tag_of}
 use Rattle.asn1_schema.specs.declared.schema.TypeTag.{TypeTag}
 use Rattle.asn1_schema.specs.declared.schema.Tags.{Tags}
 use Rattle.asn1_schema.specs.declared.schema.Tags.TheVariants as tags
@@ -153,11 +156,56 @@ abbrev pub IsUnbounded : Kind → Type 0
 IsUnbounded (kinds.Within t l u) = ⊥
 IsUnbounded _ = Unit {0}
 
--- A type with this tag stands behind the others, and one of unknown elements right before it.
-pub record IsAddedOpen (old new : List Node) (place : ℕ) (P : ℕ → Node → Type 0) : Type 0 where
+-- A type like this is put behind the others, and its place is answered; or the table stays.
+abbrev pub Puts : {E : Type 0} → List Node → List Node → (Node → Type 0) → Result ℕ E → Type 0
+Puts old new P (Ok place) = IsAdded old new place P
+Puts old new P (Err e) = new ≡ old
+
+-- an identifier has one of the tags just where this is so
+abbrev pub Tells : (Identifier → Bool) → Tags → Type 0
+Tells P ts = (id : Identifier) → has_tag ts id ≡ P id
+
+-- the identifier has a tag of the type at a place
+abbrev pub node_has_tag : Identifier → Option Node → Bool
+node_has_tag id None = false
+node_has_tag id (Some node) = has_tag node.tags id
+
+abbrev pub has_tag_at : List Node → Identifier → ℕ → Bool
+has_tag_at table id t = node_has_tag id (slice_get table t)
+
+abbrev pub has_tag_of : List Node → List ℕ → Identifier → Bool
+has_tag_of table places id = list_any (has_tag_at table id) places
+
+-- the tags are those of the types at these places
+abbrev pub AreTagsOf : List Node → List ℕ → Tags → Type 0
+AreTagsOf table places = Tells (has_tag_of table places)
+
+abbrev pub is_omissible : Omission → Bool
+is_omissible omissions.Never = false
+is_omissible omissions.Allowed = true
+is_omissible (omissions.Default o) = true
+
+abbrev pub may_be_omitted : Part → Bool
+may_be_omitted p = is_omissible p.omission
+
+-- the places of the types of the fields at the end that may all be left out
+abbrev pub last_places : List Part → List ℕ
+last_places [] = []
+last_places (p ∷ ps) =
+    if list_all may_be_omitted (p ∷ ps) then map (λ q. q.of) (p ∷ ps) else last_places ps
+
+-- A type stands behind the others, and one of unknown elements right before it: any element, but with no tag of the types
+-- at these places, and not the end of contents octets (X.690 8.1.5).
+pub record IsAddedOpen (old new : List Node) (place : ℕ) (told : List ℕ) (P : ℕ → Node → Type 0) : Type 0 where
   pub unknown : Node
   pub is_any : unknown.kind ≡ kinds.Any
+  pub apart : Tells (λ id. not (has_tag_of old told id || is_tag_of id (universal 0))) unknown.tags
   pub added : IsAdded (old ++ unknown ∷ []) new place (P (length old))
+
+-- These two are put behind the others; or the table stays, or has the first of them.
+abbrev pub PutsOpen : {E : Type 0} → List Node → List Node → List ℕ → (ℕ → Node → Type 0) → Result ℕ E → Type 0
+PutsOpen old new told P (Ok place) = IsAddedOpen old new place told P
+PutsOpen old new told P (Err e) = (more : List Node) × (new ≡ old ++ more)
 
 -- a choice among these types and the unknown one, with any tag
 abbrev pub IsOpenChoice : List ℕ → ℕ → Node → Type 0

@@ -10,6 +10,9 @@ use Rattle.asn1_schema.specs.declared.coding.Coding.{Coding}
 use Rattle.asn1_schema.specs.declared.coding.Coding.TheVariants as codings
 use Rattle.asn1_schema.specs.declared.decode.DecodeError.{DecodeError}
 use Rattle.asn1_schema.specs.declared.decode.DecodeError.TheVariants as errors
+use Rattle.asn1_schema.specs.declared.refusal.Reason.TheVariants as reasons
+use Rattle.asn1_schema.specs.declared.refusal.Refusal.{Refusal}
+use Rattle.asn1_schema.specs.declared.schema.Node.{Node}
 use Rattle.asn1_schema.specs.declared.tape.Item.{Item}
 use Rattle.asn1_schema.specs.Values.{Value}
 use Rattle.asn1_schema.specs.Tape.{Kept, marks, value_of, tape_of}
@@ -33,19 +36,28 @@ pub record IsFollowed (G : List ℕ → Value → Type 0) (octets : List ℕ) : 
   pub front : Front G octets value rest
   pub some : rest ≢ []
 
--- What an answer says that is not Ok, of the input and of what it left: the tape, and the octet of the refusal.
-pub record Fails {T : Type 0} (G : List ℕ → Value → Type 0) (is_cut : Type 0) (octets : List ℕ) (tape : List Item)
-    (octet : ℕ) (result : Result T DecodeError) : Type 0 where
-  -- no word begins the octets
-  pub refused : IsErrOf result errors.Refused → NoFront G octets
-  -- whatever follows, but where they end within identifier octets
-  pub lasting : IsErrOf result errors.Refused → (is_cut → ⊥) → (more : List ℕ) → NoFront G (octets ++ more)
-  pub cut : (n : ℕ) → IsErrOf result (errors.Incomplete n) → NoFront G octets
-  -- none does with fewer octets more
-  pub incomplete : (n : ℕ) → IsErrOf result (errors.Incomplete n) → (more : List ℕ) → length more < n →
-      NoFront G (octets ++ more)
+-- No word of the grammar begins the octets, whatever follows, but where they end within identifier octets.
+pub record HasNoWord (G : List ℕ → Value → Type 0) (is_cut : Type 0) (octets : List ℕ) : Type 0 where
+  pub none : NoFront G octets
+  pub lasting : (is_cut → ⊥) → (more : List ℕ) → NoFront G (octets ++ more)
+
+-- What an answer to a depth says that is not Ok, of the input and of what it left: the tape, and the refusal.
+-- G is of words whose elements nest to a depth.
+pub record Fails {T : Type 0} (table : List Node) (G : ℕ → List ℕ → Value → Type 0) (depth : ℕ) (is_cut : Type 0)
+    (octets : List ℕ) (tape : List Item) (refusal : Refusal) (result : Result T DecodeError) : Type 0 where
+  -- no word of any depth begins the octets
+  pub refused : IsErrOf result errors.Refused → (d : ℕ) → HasNoWord (G d) is_cut octets
+  -- none of this depth does
+  pub too_deep : IsErrOf result errors.TooDeep → HasNoWord (G depth) is_cut octets
+  pub cut : (n : ℕ) → IsErrOf result (errors.Incomplete n) → NoFront (G depth) octets
+  -- none of any depth does with fewer octets more
+  pub incomplete : (n : ℕ) → IsErrOf result (errors.Incomplete n) → (d : ℕ) (more : List ℕ) → length more < n →
+      NoFront (G d) (octets ++ more)
   pub emptied : OnErr result (tape ≡ [])
-  pub within : octet ≤ length octets
+  pub within : refusal.octet ≤ length octets
+  -- the refusal is told of a type of the table, or of one that it does not have
+  pub of : IsErrOf result errors.Refused → (refusal.of < length table) ⊎ (refusal.reason ≡ reasons.MissingType)
+  pub deep : IsErrOf result errors.TooDeep → refusal.reason ≡ reasons.Depth
 
 -- The octets end within the identifier octets of an element (X.690 8.1.2.4), by BER of one that is nested.
 abbrev pub EndsWithin : Coding → List ℕ → Type 0

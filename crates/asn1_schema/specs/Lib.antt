@@ -14,3 +14,4 @@ pub mod Tape
 pub mod Values
 pub mod Joined
 pub mod Moments
+pub mod Owned

@@ -3,7 +3,6 @@ use Rattle.std.specs.Prelude.{ℕ, Bool, List, ◌++◌, ◌≡◌, ◌↔◌, s
 use Rattle.x690.specs.Elements.{Parts}
 use Rattle.x690.specs.Joined.{IsJoined}
 use Rattle.asn1_schema.specs.declared.fault.Fault.{Fault}
-use Rattle.asn1_schema.specs.declared.fault.Fault.TheVariants as faults
 use Rattle.asn1_schema.specs.declared.coding.Coding.{Coding}
 use Rattle.asn1_schema.specs.declared.tape.Item.{Item}
 use Rattle.asn1_schema.specs.declared.pieces.Sort.{Sort}
@@ -11,7 +10,7 @@ use Rattle.asn1_schema.specs.declared.pieces.Sort.TheVariants as sorts
 use Rattle.asn1_schema.specs.Values.{Leaf, bits, octets, text, time, Value, leaf, joined}
 use Rattle.asn1_schema.specs.Grammar.{StringOf, Says, AllButLast, IsUniversal, IsString, IsText, of_octets, of_bits}
 use Rattle.asn1_schema.specs.Tape.{Kept, Mark, mark, marks, leaf_mark, value_of, tape_of}
-use Rattle.asn1_schema.specs.Reading.{rules_of}
+use Rattle.asn1_schema.specs.Reading.{rules_of, UnlessMemory}
 
 -- what strings of a sort are lists of
 abbrev pub Elem : Sort → Type 0
@@ -81,8 +80,7 @@ pub record PutsPieces (e : Coding) (s : Sort) (P : List (Elem s) → Type 0) (fo
 abbrev pub ReadsPieces : (e : Coding) (s : Sort) → (List (Elem s) → Type 0) → List Item → List Item →
     Result Bool Fault → Type 0
 ReadsPieces e s P old new (Ok follow) = PutsPieces e s P follow old new
-ReadsPieces e s P old new (Err faults.Refused) = (xs : List (Elem s)) → P xs → ⊥
-ReadsPieces e s P old new (Err faults.Memory) = Unit {0}
+ReadsPieces e s P old new (Err x) = UnlessMemory x ((xs : List (Elem s)) → P xs → ⊥)
 
 -- pieces are closed: a value of what they join to
 pub record ClosesPieces (s : Sort) (pieces : List (List (Elem s))) (front : List Mark) (new : List Item) : Type 0 where

@@ -1,5 +1,5 @@
 -- What readers of values may answer.
-use Rattle.std.specs.Prelude.{ℕ, ℤ, Bool, true, false, List, [], ◌∷◌, ◌++◌, ◌≡◌, ◌⊎◌, Contains, length, slice_get, Option, Some, None, Result, Ok, Err}
+use Rattle.std.specs.Prelude.{ℕ, ℤ, ◌≤◌, Bool, true, false, List, [], ◌∷◌, ◌++◌, ◌≡◌, ◌⊎◌, Contains, length, slice_get, Option, Some, None, Result, Ok, Err}
 use Rattle.std.specs.Borrow.{Bor}
 use Rattle.x690.specs.Identifiers.{Identifier}
 use Rattle.x690.specs.Lengths.{LengthForm, definite, indefinite}
@@ -75,11 +75,31 @@ abbrev pub IsListed : List ℤ → Bool → Parts → Value → Type 0
 IsListed numbers extensible p v = (n : ℤ) × (v ≡ leaf (enumerated n)) × (p.id.constructed ≡ false) ×
     IsIntegerContent n p.content × ((extensible ≡ true) ⊎ Contains numbers n)
 
+-- what is said of an error, but where memory ran out
+abbrev pub UnlessMemory : Fault → Type 0 → Type 0
+UnlessMemory faults.Memory P = Unit {0}
+UnlessMemory faults.Refused P = P
+UnlessMemory faults.TooDeep P = P
+
+-- An answer to a depth holds at each depth that is not less; that elements nest too deep holds at this one alone.
+abbrev pub FaultHolds : ℕ → Fault → ℕ → Type 0
+FaultHolds depth faults.Memory d = depth ≤ d
+FaultHolds depth faults.Refused d = depth ≤ d
+FaultHolds depth faults.TooDeep d = d ≡ depth
+
+abbrev pub HoldsAt : {T : Type 0} → ℕ → Result T Fault → ℕ → Type 0
+HoldsAt depth (Ok x) d = depth ≤ d
+HoldsAt depth (Err e) d = FaultHolds depth e d
+
+-- it is so; or it is not
+abbrev pub Admits : {T : Type 0} → Type 0 → Result T Fault → Type 0
+Admits P (Ok x) = P
+Admits P (Err e) = UnlessMemory e (P → ⊥)
+
 -- A leaf with this property is the item; or there is no value with it.
 abbrev pub Judges : (Value → Type 0) → Result Item Fault → Type 0
 Judges P (Ok item) = (l : Leaf) × (mark item ≡ leaf_mark l) × P (leaf l)
-Judges P (Err faults.Refused) = (v : Value) → P v → ⊥
-Judges P (Err faults.Memory) = Unit {0}
+Judges P (Err e) = UnlessMemory e ((v : Value) → P v → ⊥)
 
 -- a value with this property was put on the tape
 pub record PutsValue (P : Value → Type 0) (old new : List Item) : Type 0 where
@@ -90,8 +110,7 @@ pub record PutsValue (P : Value → Type 0) (old new : List Item) : Type 0 where
 -- The value is put on the tape; or there is none. Nothing is claimed where memory ran out.
 abbrev pub ReadsValue : {T : Type 0} → (Value → Type 0) → List Item → List Item → Result T Fault → Type 0
 ReadsValue P old new (Ok x) = PutsValue P old new
-ReadsValue P old new (Err faults.Refused) = (v : Value) → P v → ⊥
-ReadsValue P old new (Err faults.Memory) = Unit {0}
+ReadsValue P old new (Err e) = UnlessMemory e ((v : Value) → P v → ⊥)
 
 -- values of fields, or of a list
 pub record PutsRow (P : Values → Type 0) (old new : List Item) : Type 0 where
@@ -101,8 +120,7 @@ pub record PutsRow (P : Values → Type 0) (old new : List Item) : Type 0 where
 
 abbrev pub ReadsRow : {T : Type 0} → (Values → Type 0) → List Item → List Item → Result T Fault → Type 0
 ReadsRow P old new (Ok x) = PutsRow P old new
-ReadsRow P old new (Err faults.Refused) = (vs : Values) → P vs → ⊥
-ReadsRow P old new (Err faults.Memory) = Unit {0}
+ReadsRow P old new (Err e) = UnlessMemory e ((vs : Values) → P vs → ⊥)
 
 -- a value, before this rest
 pub record PutsFront (P : Value → List ℕ → Type 0) (old new : List Item) (rest : List ℕ) : Type 0 where
@@ -116,8 +134,7 @@ HasNoFront P = (v : Value) (rest : List ℕ) → P v rest → ⊥
 
 abbrev pub ReadsFront : (Value → List ℕ → Type 0) → List Item → List Item → Result (Bor (List ℕ)) Fault → Type 0
 ReadsFront P old new (Ok rest) = PutsFront P old new rest.now
-ReadsFront P old new (Err faults.Refused) = HasNoFront P
-ReadsFront P old new (Err faults.Memory) = Unit {0}
+ReadsFront P old new (Err e) = UnlessMemory e (HasNoFront P)
 
 -- an element with a tag of the type at a place begins the octets
 pub record BeginsTagged (R : Rules) (table : List Node) (t : ℕ) (octets : List ℕ) : Type 0 where
@@ -156,14 +173,12 @@ abbrev pub ReadsField : Rules → (Parts → Value → Type 0) → Type 0 → Pr
     Result (Bor (List ℕ)) Fault → Type 0
 ReadsField R Sub Tagged presence octets old new (Ok rest) =
     PutsFront (Begins R Sub octets) old new rest.now ⊎ LeavesOut R Sub presence octets old new rest.now
-ReadsField R Sub Tagged presence octets old new (Err faults.Refused) = IsMissing R Sub Tagged presence octets
-ReadsField R Sub Tagged presence octets old new (Err faults.Memory) = Unit {0}
+ReadsField R Sub Tagged presence octets old new (Err e) =
+    UnlessMemory e (IsMissing R Sub Tagged presence octets)
 
 -- A measure is within bounds; or it is not.
 abbrev pub JudgesBounds : {T : Type 0} → Option ℤ → Option ℤ → Option ℤ → Result T Fault → Type 0
-JudgesBounds lower upper m (Ok x) = IsMeasured lower upper m
-JudgesBounds lower upper m (Err faults.Refused) = IsMeasured lower upper m → ⊥
-JudgesBounds lower upper m (Err faults.Memory) = Unit {0}
+JudgesBounds lower upper m = Admits (IsMeasured lower upper m)
 
 -- So for a leaf, and for a value of an arm, which has no measure. Nothing is claimed of other items.
 abbrev pub JudgesItem : {T : Type 0} → Option ℤ → Option ℤ → Mark → Result T Fault → Type 0

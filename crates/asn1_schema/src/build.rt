@@ -1,19 +1,22 @@
 //! A table that is built with names, as ASN.1 reads.
-ghost use Rattle.std.specs.Prelude.{IsTrue, slice_set, IfSome, IfNone, slice_get, List, [], ◌∷◌, ◌++◌, ◌≡◌, length};
-ghost use Rattle.std.specs.Prelude.{◌<◌, ◌≤◌, IfOk, IfErr, OnOk, OnErr, map, Some, None, true, false};
+ghost use Rattle.std.specs.Prelude.{IsTrue, slice_set, slice_get, List, [], ◌∷◌, ◌++◌, ◌≡◌, length};
+ghost use Rattle.std.specs.Prelude.{◌<◌, ◌≤◌, ◌||◌, ◌&&◌, not, IfOk, IfErr, OnOk, OnErr, map, Some, None, true, false};
 ghost use Rattle.asn1_schema.specs.declared.schema.Kind.TheVariants as kinds;
 ghost use Rattle.asn1_schema.specs.declared.build.BuildError.TheVariants as errors;
-ghost use Rattle.asn1_schema.specs.Build.{IsAdded, IsOf, IsLike, IsTagged, IsRow, IsListed, universal, text_number};
+ghost use Rattle.asn1_schema.specs.Build.{IsOf, IsLike, IsRow, IsListed, universal, text_number};
 ghost use Rattle.asn1_schema.specs.Build.{AreParts};
-ghost use Rattle.asn1_schema.specs.Build.{IsPresence, AreSameTags, IsSamePresence, AreSameFields, IsRetagged};
-ghost use Rattle.asn1_schema.specs.Build.{IsAnyNode, IsBounded, IsChoiceOf, IsUnder, IsDefined, IsUnbounded};
-ghost use Rattle.asn1_schema.specs.Build.{IsAddedOpen, IsOpenChoice};
+ghost use Rattle.asn1_schema.specs.Grammar.{has_tag, is_tag_of};
+ghost use Rattle.asn1_schema.specs.Build.{IsPresence, IsAnyNode, IsBounded, IsChoiceOf, IsUnder, IsDefined};
+ghost use Rattle.asn1_schema.specs.Build.{Puts, PutsOpen, IsOpenChoice, Tells, AreTagsOf, has_tag_at};
+ghost use Rattle.asn1_schema.specs.Build.{last_places, may_be_omitted};
 ghost use Rattle.asn1_schema.specs.declared.schema.TimeKind.TheVariants as times;
 
+use crate::copies::{bounded, copied_tags, retagged};
 use crate::names::{PartName, TypeNames, label};
 use crate::parts::{ChoiceArm, Omission, Part};
 use crate::schema::{Field, Kind, Node, Presence, Tags, TextKind, TimeKind, TypeTag};
 use crate::tagged::node_at;
+use crate::unions::{all_others, one_tag, united};
 use std::alloc::{AllocError, AllocFailed, Global};
 
 /// Why a type is not put into a table.
@@ -118,13 +121,6 @@ fn listed_numbers(alloc: Global, labels: &[PartName<'_>]) -> Result<Vec<i128>, B
     Ok(labels.iter().map(|label| label.number).collect(alloc)?)
 }
 
-/// This one tag.
-fn one_tag(alloc: Global, tag: TypeTag) -> Result<Tags, BuildError>
-    ensures { IfOk result (IsTagged tag) }
-{
-    Ok(Tags::Among(Vec::from_array(alloc, [tag])?))
-}
-
 /// The field that a part is.
 fn field_of(alloc: Global, part: &Part<'_>) -> Result<Field, BuildError>
     ensures of { IfOk result (λ field. field.of ≡ part.now.of) }
@@ -178,121 +174,6 @@ fn arm_places(alloc: Global, arms: &[ChoiceArm<'_>]) -> Result<Vec<usize>, Build
     Ok(arms.iter().map(|arm| arm.of).collect(alloc)?)
 }
 
-/// Puts the tags of a type behind others: those that it may have, or those that it may not have.
-fn push_tags(
-    listed: &mut Vec<TypeTag>,
-    left_out: &mut Vec<TypeTag>,
-    tags: &Tags,
-) -> Result<(), BuildError> {
-    match tags {
-        Tags::Among(list) => listed.extend_from_slice(list)?,
-        Tags::AllBut(list) => left_out.extend_from_slice(list)?,
-    }
-    Ok(())
-}
-
-/// Any tag but those that are left out and not listed.
-fn all_but(alloc: Global, listed: &[TypeTag], left_out: &[TypeTag]) -> Result<Tags, BuildError> {
-    let mut others = Vec::new(alloc);
-    for tag in left_out {
-        if !listed.contains(tag) {
-            others.push(*tag)?;
-        }
-    }
-    Ok(Tags::AllBut(others))
-}
-
-/// The place of the type that bounds are on, and the bounds.
-fn bounded(kind: &Kind) -> Option<(usize, Option<i128>, Option<i128>)>
-    ensures some { IfSome result (λ b. kind.now ≡ kinds.Within b.0 b.1 b.2) }
-    ensures none { IfNone result (IsUnbounded kind.now) }
-{
-    match kind {
-        Kind::Within(inner, lower, upper) => Some((*inner, *lower, *upper)),
-        Kind::Boolean => None,
-        Kind::Null => None,
-        Kind::Integer => None,
-        Kind::Enumerated(_, _) => None,
-        Kind::Bits(_) => None,
-        Kind::Octets => None,
-        Kind::Identifier(_) => None,
-        Kind::Text(_) => None,
-        Kind::Time(_) => None,
-        Kind::Any => None,
-        Kind::Sequence(_, _) => None,
-        Kind::SequenceOf(_) => None,
-        Kind::SetOf(_) => None,
-        Kind::Choice(_) => None,
-        Kind::Explicit(_) => None,
-    }
-}
-
-/// The same tags.
-fn copied_tags(alloc: Global, tags: &Tags) -> Result<Tags, BuildError>
-    ensures { IfOk result (AreSameTags tags.now) }
-{
-    match tags {
-        Tags::Among(list) => Ok(Tags::Among(Vec::from_slice(alloc, list)?)),
-        Tags::AllBut(list) => Ok(Tags::AllBut(Vec::from_slice(alloc, list)?)),
-    }
-}
-
-/// The same field.
-fn copied_field(alloc: Global, field: &Field) -> Result<Field, BuildError>
-    ensures of { IfOk result (λ copy. copy.of ≡ field.now.of) }
-    ensures presence { IfOk result (λ copy. IsSamePresence field.now.presence copy.presence) }
-{
-    let presence = match &field.presence {
-        Presence::Required => Presence::Required,
-        Presence::Optional => Presence::Optional,
-        Presence::Default(octets) => Presence::Default(Vec::from_slice(alloc, octets)?),
-    };
-    Ok(Field {
-        of: field.of,
-        presence,
-    })
-}
-
-/// The same fields.
-fn copied_fields(alloc: Global, fields: &[Field]) -> Result<Vec<Field>, BuildError>
-    ensures { IfOk result (λ copies. AreSameFields fields.now copies.items) }
-{
-    let mut copies = Vec::new(alloc);
-    for field in fields {
-        let copy = copied_field(alloc, field)?;
-        copies.push(copy)?;
-    }
-    Ok(copies)
-}
-
-/// The kind that a type at a place has under another tag. Bounds then bound the type at another place.
-fn retagged(alloc: Global, of: usize, inner: usize, kind: &Kind) -> Result<Kind, BuildError>
-    ensures { IfOk result (IsRetagged of inner kind.now) }
-{
-    Ok(match kind {
-        Kind::Enumerated(numbers, extensible) => {
-            Kind::Enumerated(Vec::from_slice(alloc, numbers)?, *extensible)
-        }
-        Kind::Sequence(fields, unknown) => {
-            Kind::Sequence(copied_fields(alloc, fields)?, *unknown)
-        }
-        Kind::Choice(_) => Kind::Explicit(of),
-        Kind::Any => Kind::Explicit(of),
-        Kind::Within(_, lower, upper) => Kind::Within(inner, *lower, *upper),
-        Kind::Boolean => Kind::Boolean,
-        Kind::Null => Kind::Null,
-        Kind::Integer => Kind::Integer,
-        Kind::Bits(named) => Kind::Bits(*named),
-        Kind::Octets => Kind::Octets,
-        Kind::Identifier(relative) => Kind::Identifier(*relative),
-        Kind::Text(text) => Kind::Text(*text),
-        Kind::Time(time) => Kind::Time(*time),
-        Kind::SequenceOf(member) => Kind::SequenceOf(*member),
-        Kind::SetOf(member) => Kind::SetOf(*member),
-        Kind::Explicit(within) => Kind::Explicit(*within),
-    })
-}
-
 impl<'n> Schema<'n> {
     /// A table with no types.
     pub fn new(alloc: Global) -> Schema<'n>
@@ -333,9 +214,8 @@ impl<'n> Schema<'n> {
         kind: Kind,
         labels: Vec<PartName<'n>>,
     ) -> Result<usize, BuildError>
-        ensures ok { IfOk result (λ place. IsAdded self.old.nodes.items self.new.nodes.items place
-            (IsOf tag kind)) }
-        ensures err { OnErr result (self.new.nodes.items ≡ self.old.nodes.items) }
+        ensures { Puts self.old.nodes.items self.new.nodes.items
+            (IsOf tag kind) result }
     {
         let tags = one_tag(self.alloc, tag)?;
         self.put(Node { tags, kind }, TypeNames { name, labels })
@@ -343,9 +223,8 @@ impl<'n> Schema<'n> {
 
     /// Puts a type with a universal tag and without names of parts behind the others.
     fn plain(&mut self, name: &'n str, number: u32, kind: Kind) -> Result<usize, BuildError>
-        ensures ok { IfOk result (λ place. IsAdded self.old.nodes.items self.new.nodes.items place
-            (IsOf (universal number) kind)) }
-        ensures err { OnErr result (self.new.nodes.items ≡ self.old.nodes.items) }
+        ensures { Puts self.old.nodes.items self.new.nodes.items
+            (IsOf (universal number) kind) result }
     {
         let labels = Vec::new(self.alloc);
         self.tagged(name, universal(number), kind, labels)
@@ -353,27 +232,24 @@ impl<'n> Schema<'n> {
 
     /// BOOLEAN.
     pub fn boolean(&mut self, name: &'n str) -> Result<usize, BuildError>
-        ensures ok { IfOk result (λ place. IsAdded self.old.nodes.items self.new.nodes.items place
-            (IsOf (universal 1) kinds.Boolean)) }
-        ensures err { OnErr result (self.new.nodes.items ≡ self.old.nodes.items) }
+        ensures { Puts self.old.nodes.items self.new.nodes.items
+            (IsOf (universal 1) kinds.Boolean) result }
     {
         self.plain(name, 1, Kind::Boolean)
     }
 
     /// NULL.
     pub fn null(&mut self, name: &'n str) -> Result<usize, BuildError>
-        ensures ok { IfOk result (λ place. IsAdded self.old.nodes.items self.new.nodes.items place
-            (IsOf (universal 5) kinds.Null)) }
-        ensures err { OnErr result (self.new.nodes.items ≡ self.old.nodes.items) }
+        ensures { Puts self.old.nodes.items self.new.nodes.items
+            (IsOf (universal 5) kinds.Null) result }
     {
         self.plain(name, 5, Kind::Null)
     }
 
     /// INTEGER, with numbers that have names, or with none.
     pub fn integer(&mut self, name: &'n str, numbers: &[PartName<'n>]) -> Result<usize, BuildError>
-        ensures ok { IfOk result (λ place. IsAdded self.old.nodes.items self.new.nodes.items place
-            (IsOf (universal 2) kinds.Integer)) }
-        ensures err { OnErr result (self.new.nodes.items ≡ self.old.nodes.items) }
+        ensures { Puts self.old.nodes.items self.new.nodes.items
+            (IsOf (universal 2) kinds.Integer) result }
     {
         let labels = Vec::from_slice(self.alloc, numbers)?;
         self.tagged(name, universal(2), Kind::Integer, labels)
@@ -386,9 +262,8 @@ impl<'n> Schema<'n> {
         numbers: &[PartName<'n>],
         extensible: bool,
     ) -> Result<usize, BuildError>
-        ensures ok { IfOk result (λ place. IsAdded self.old.nodes.items self.new.nodes.items place
-            (IsLike (universal 10) (IsListed numbers.now extensible))) }
-        ensures err { OnErr result (self.new.nodes.items ≡ self.old.nodes.items) }
+        ensures { Puts self.old.nodes.items self.new.nodes.items
+            (IsLike (universal 10) (IsListed numbers.now extensible)) result }
     {
         let labels = Vec::from_slice(self.alloc, numbers)?;
         let listed = listed_numbers(self.alloc, numbers)?;
@@ -402,18 +277,16 @@ impl<'n> Schema<'n> {
 
     /// BIT STRING, with no names.
     pub fn bits(&mut self, name: &'n str) -> Result<usize, BuildError>
-        ensures ok { IfOk result (λ place. IsAdded self.old.nodes.items self.new.nodes.items place
-            (IsOf (universal 3) (kinds.Bits false))) }
-        ensures err { OnErr result (self.new.nodes.items ≡ self.old.nodes.items) }
+        ensures { Puts self.old.nodes.items self.new.nodes.items
+            (IsOf (universal 3) (kinds.Bits false)) result }
     {
         self.plain(name, 3, Kind::Bits(false))
     }
 
     /// BIT STRING whose bits have names: zeros at its end say nothing (X.680 22.7).
     pub fn named_bits(&mut self, name: &'n str, bits: &[PartName<'n>]) -> Result<usize, BuildError>
-        ensures ok { IfOk result (λ place. IsAdded self.old.nodes.items self.new.nodes.items place
-            (IsOf (universal 3) (kinds.Bits true))) }
-        ensures err { OnErr result (self.new.nodes.items ≡ self.old.nodes.items) }
+        ensures { Puts self.old.nodes.items self.new.nodes.items
+            (IsOf (universal 3) (kinds.Bits true)) result }
     {
         let labels = Vec::from_slice(self.alloc, bits)?;
         self.tagged(name, universal(3), Kind::Bits(true), labels)
@@ -421,54 +294,48 @@ impl<'n> Schema<'n> {
 
     /// OCTET STRING.
     pub fn octets(&mut self, name: &'n str) -> Result<usize, BuildError>
-        ensures ok { IfOk result (λ place. IsAdded self.old.nodes.items self.new.nodes.items place
-            (IsOf (universal 4) kinds.Octets)) }
-        ensures err { OnErr result (self.new.nodes.items ≡ self.old.nodes.items) }
+        ensures { Puts self.old.nodes.items self.new.nodes.items
+            (IsOf (universal 4) kinds.Octets) result }
     {
         self.plain(name, 4, Kind::Octets)
     }
 
     /// OBJECT IDENTIFIER.
     pub fn identifier(&mut self, name: &'n str) -> Result<usize, BuildError>
-        ensures ok { IfOk result (λ place. IsAdded self.old.nodes.items self.new.nodes.items place
-            (IsOf (universal 6) (kinds.Identifier false))) }
-        ensures err { OnErr result (self.new.nodes.items ≡ self.old.nodes.items) }
+        ensures { Puts self.old.nodes.items self.new.nodes.items
+            (IsOf (universal 6) (kinds.Identifier false)) result }
     {
         self.plain(name, 6, Kind::Identifier(false))
     }
 
     /// RELATIVE-OID.
     pub fn relative_identifier(&mut self, name: &'n str) -> Result<usize, BuildError>
-        ensures ok { IfOk result (λ place. IsAdded self.old.nodes.items self.new.nodes.items place
-            (IsOf (universal 13) (kinds.Identifier true))) }
-        ensures err { OnErr result (self.new.nodes.items ≡ self.old.nodes.items) }
+        ensures { Puts self.old.nodes.items self.new.nodes.items
+            (IsOf (universal 13) (kinds.Identifier true)) result }
     {
         self.plain(name, 13, Kind::Identifier(true))
     }
 
     /// A character string.
     pub fn text(&mut self, name: &'n str, kind: TextKind) -> Result<usize, BuildError>
-        ensures ok { IfOk result (λ place. IsAdded self.old.nodes.items self.new.nodes.items place
-            (IsOf (universal (text_number kind)) (kinds.Text kind))) }
-        ensures err { OnErr result (self.new.nodes.items ≡ self.old.nodes.items) }
+        ensures { Puts self.old.nodes.items self.new.nodes.items
+            (IsOf (universal (text_number kind)) (kinds.Text kind)) result }
     {
         self.plain(name, text_number(kind), Kind::Text(kind))
     }
 
     /// UTCTime.
     pub fn utc_time(&mut self, name: &'n str) -> Result<usize, BuildError>
-        ensures ok { IfOk result (λ place. IsAdded self.old.nodes.items self.new.nodes.items place
-            (IsOf (universal 23) (kinds.Time times.Utc))) }
-        ensures err { OnErr result (self.new.nodes.items ≡ self.old.nodes.items) }
+        ensures { Puts self.old.nodes.items self.new.nodes.items
+            (IsOf (universal 23) (kinds.Time times.Utc)) result }
     {
         self.plain(name, 23, Kind::Time(TimeKind::Utc))
     }
 
     /// GeneralizedTime.
     pub fn generalized_time(&mut self, name: &'n str) -> Result<usize, BuildError>
-        ensures ok { IfOk result (λ place. IsAdded self.old.nodes.items self.new.nodes.items place
-            (IsOf (universal 24) (kinds.Time times.Generalized))) }
-        ensures err { OnErr result (self.new.nodes.items ≡ self.old.nodes.items) }
+        ensures { Puts self.old.nodes.items self.new.nodes.items
+            (IsOf (universal 24) (kinds.Time times.Generalized)) result }
     {
         self.plain(name, 24, Kind::Time(TimeKind::Generalized))
     }
@@ -489,9 +356,8 @@ impl<'n> Schema<'n> {
     /// SEQUENCE OF values of the type at a place.
     pub fn sequence_of(&mut self, name: &'n str, of: usize) -> Result<usize, BuildError>
         ensures leads { IfOk result (λ _. of < length self.old.nodes.items) }
-        ensures ok { IfOk result (λ place. IsAdded self.old.nodes.items self.new.nodes.items place
-            (IsOf (universal 16) (kinds.SequenceOf of))) }
-        ensures err { OnErr result (self.new.nodes.items ≡ self.old.nodes.items) }
+        ensures ok { Puts self.old.nodes.items self.new.nodes.items
+            (IsOf (universal 16) (kinds.SequenceOf of)) result }
     {
         self.check_place(of)?;
         self.plain(name, 16, Kind::SequenceOf(of))
@@ -500,9 +366,8 @@ impl<'n> Schema<'n> {
     /// SET OF values of the type at a place.
     pub fn set_of(&mut self, name: &'n str, of: usize) -> Result<usize, BuildError>
         ensures leads { IfOk result (λ _. of < length self.old.nodes.items) }
-        ensures ok { IfOk result (λ place. IsAdded self.old.nodes.items self.new.nodes.items place
-            (IsOf (universal 17) (kinds.SetOf of))) }
-        ensures err { OnErr result (self.new.nodes.items ≡ self.old.nodes.items) }
+        ensures ok { Puts self.old.nodes.items self.new.nodes.items
+            (IsOf (universal 17) (kinds.SetOf of)) result }
     {
         self.check_place(of)?;
         self.plain(name, 17, Kind::SetOf(of))
@@ -511,9 +376,8 @@ impl<'n> Schema<'n> {
     /// A value of the type at a place, in an element with this tag.
     pub fn explicit(&mut self, tag: TypeTag, of: usize) -> Result<usize, BuildError>
         ensures leads { IfOk result (λ _. of < length self.old.nodes.items) }
-        ensures ok { IfOk result (λ place. IsAdded self.old.nodes.items self.new.nodes.items place
-            (IsOf tag (kinds.Explicit of))) }
-        ensures err { OnErr result (self.new.nodes.items ≡ self.old.nodes.items) }
+        ensures ok { Puts self.old.nodes.items self.new.nodes.items
+            (IsOf tag (kinds.Explicit of)) result }
     {
         self.check_place(of)?;
         let labels = Vec::new(self.alloc);
@@ -536,9 +400,8 @@ impl<'n> Schema<'n> {
         parts: &[Part<'n>],
         unknown: Option<usize>,
     ) -> Result<usize, BuildError>
-        ensures ok { IfOk result (λ place. IsAdded self.old.nodes.items self.new.nodes.items place
-            (IsLike (universal 16) (IsRow parts.now unknown))) }
-        ensures err { OnErr result (self.new.nodes.items ≡ self.old.nodes.items) }
+        ensures { Puts self.old.nodes.items self.new.nodes.items
+            (IsLike (universal 16) (IsRow parts.now unknown)) result }
     {
         self.check_parts(parts)?;
         let labels = part_names(self.alloc, parts)?;
@@ -548,36 +411,56 @@ impl<'n> Schema<'n> {
 
     /// SEQUENCE of these fields.
     pub fn sequence(&mut self, name: &'n str, parts: &[Part<'n>]) -> Result<usize, BuildError>
-        ensures ok { IfOk result (λ place. IsAdded self.old.nodes.items self.new.nodes.items place
-            (IsLike (universal 16) (IsRow parts.now None))) }
-        ensures err { OnErr result (self.new.nodes.items ≡ self.old.nodes.items) }
+        ensures { Puts self.old.nodes.items self.new.nodes.items
+            (IsLike (universal 16) (IsRow parts.now None)) result }
     {
         self.row(name, parts, None)
     }
 
-    /// The tags of the fields at the end that may be left out.
-    fn last_tags(&self, parts: &[Part<'_>]) -> Result<Vec<TypeTag>, BuildError> {
-        let mut listed = Vec::new(self.alloc);
-        let mut left_out = Vec::new(self.alloc);
-        for part in parts {
-            if matches!(&part.omission, Omission::Never) {
-                listed.clear();
-            } else if let Some(node) = node_at(&self.nodes, part.of) {
-                push_tags(&mut listed, &mut left_out, &node.tags)?;
-            }
+    /// The tags with those of the type at a place, if there is one.
+    fn with_type(&self, tags: Tags, of: usize) -> Result<Tags, BuildError>
+        ensures { IfOk result (Tells (λ id. has_tag tags id ||
+            has_tag_at self.now.nodes.items id of)) }
+    {
+        match node_at(&self.nodes, of) {
+            None => Ok(tags),
+            Some(node) => united(self.alloc, tags, &node.tags),
         }
-        Ok(listed)
+    }
+
+    /// The tags with those of a field that may be left out; and none behind a field that may not.
+    fn with_part(&self, tags: Tags, part: &Part<'_>) -> Result<Tags, BuildError>
+        ensures { IfOk result (Tells (λ id. may_be_omitted part.now &&
+            (has_tag tags id || has_tag_at self.now.nodes.items id part.now.of))) }
+    {
+        match part.omission {
+            Omission::Never => Ok(Tags::Among(Vec::new(self.alloc))),
+            Omission::Allowed => self.with_type(tags, part.of),
+            Omission::Default(_) => self.with_type(tags, part.of),
+        }
+    }
+
+    /// The tags of the fields at the end that may all be left out.
+    fn last_tags(&self, parts: &[Part<'_>]) -> Result<Tags, BuildError>
+        ensures { IfOk result (AreTagsOf self.now.nodes.items (last_places parts.now)) }
+    {
+        let mut tags = Tags::Among(Vec::new(self.alloc));
+        for part in parts {
+            tags = self.with_part(tags, part)?;
+        }
+        Ok(tags)
     }
 
     /// Any one element but with these tags, and but the end of contents octets.
-    fn unknown(&mut self, mut tags: Vec<TypeTag>) -> Result<usize, BuildError>
-        ensures ok { IfOk result (λ place. IsAdded self.old.nodes.items self.new.nodes.items place
-            (λ node. node.kind ≡ kinds.Any)) }
-        ensures err { OnErr result (self.new.nodes.items ≡ self.old.nodes.items) }
+    fn unknown(&mut self, tags: Tags) -> Result<usize, BuildError>
+        ensures { Puts self.old.nodes.items self.new.nodes.items
+            (λ node. (node.kind ≡ kinds.Any) ×
+            Tells (λ id. not (has_tag tags id || is_tag_of id (universal 0))) node.tags)
+            result }
     {
-        tags.push(universal(0))?;
+        let end = one_tag(self.alloc, universal(0))?;
         let node = Node {
-            tags: Tags::AllBut(tags),
+            tags: all_others(united(self.alloc, tags, &end)?),
             kind: Kind::Any,
         };
         let labels = Vec::new(self.alloc);
@@ -587,9 +470,8 @@ impl<'n> Schema<'n> {
     /// SEQUENCE of these fields and an extension mark: unknown elements may follow, but none with the tag of a field
     /// at the end that may be left out.
     pub fn open_sequence(&mut self, name: &'n str, parts: &[Part<'n>]) -> Result<usize, BuildError>
-        ensures ok { IfOk result (λ place. IsAddedOpen self.old.nodes.items self.new.nodes.items
-            place (λ unknown. IsLike (universal 16) (IsRow parts.now (Some unknown)))) }
-        ensures grows { (more : List Node) × (self.new.nodes.items ≡ self.old.nodes.items ++ more) }
+        ensures { PutsOpen self.old.nodes.items self.new.nodes.items (last_places parts.now)
+            (λ unknown. IsLike (universal 16) (IsRow parts.now (Some unknown))) result }
     {
         let tags = self.last_tags(parts)?;
         let unknown = self.unknown(tags)?;
@@ -598,9 +480,8 @@ impl<'n> Schema<'n> {
 
     /// Any one element but the end of contents octets.
     pub fn any(&mut self, name: &'n str) -> Result<usize, BuildError>
-        ensures ok { IfOk result (λ place. IsAdded self.old.nodes.items self.new.nodes.items place
-            IsAnyNode) }
-        ensures err { OnErr result (self.new.nodes.items ≡ self.old.nodes.items) }
+        ensures { Puts self.old.nodes.items self.new.nodes.items
+            IsAnyNode result }
     {
         let ends = Vec::from_array(self.alloc, [universal(0)])?;
         let node = Node {
@@ -619,9 +500,8 @@ impl<'n> Schema<'n> {
         lower: Option<i128>,
         upper: Option<i128>,
     ) -> Result<usize, BuildError>
-        ensures ok { IfOk result (λ place. IsAdded self.old.nodes.items self.new.nodes.items place
-            (IsBounded self.old.nodes.items of lower upper)) }
-        ensures err { OnErr result (self.new.nodes.items ≡ self.old.nodes.items) }
+        ensures { Puts self.old.nodes.items self.new.nodes.items
+            (IsBounded self.old.nodes.items of lower upper) result }
     {
         let Some(node) = node_at(&self.nodes, of) else {
             return Err(BuildError::MissingType);
@@ -632,31 +512,23 @@ impl<'n> Schema<'n> {
         self.put(Node { tags, kind }, TypeNames { name, labels })
     }
 
-    /// The tags of arms. Where one may have any tag but some, all may have any but those of these that no arm has.
-    fn arm_tags(&self, arms: &[ChoiceArm<'_>]) -> Result<Tags, BuildError> {
-        let mut listed = Vec::new(self.alloc);
-        let mut left_out = Vec::new(self.alloc);
-        let mut is_open = false;
+    /// The tags of arms.
+    fn arm_tags(&self, arms: &[ChoiceArm<'_>]) -> Result<Tags, BuildError>
+        ensures { IfOk result (AreTagsOf self.now.nodes.items (map (λ a. a.of) arms.now)) }
+    {
+        let mut tags = Tags::Among(Vec::new(self.alloc));
         for arm in arms {
-            match node_at(&self.nodes, arm.of) {
-                None => return Err(BuildError::MissingType),
-                Some(node) => {
-                    is_open = is_open || matches!(&node.tags, Tags::AllBut(_));
-                    push_tags(&mut listed, &mut left_out, &node.tags)?;
-                }
-            }
+            self.check_place(arm.of)?;
+            tags = self.with_type(tags, arm.of)?;
         }
-        if is_open {
-            return all_but(self.alloc, &listed, &left_out);
-        }
-        Ok(Tags::Among(listed))
+        Ok(tags)
     }
 
     /// CHOICE among the types of these arms, with their tags.
     pub fn choice(&mut self, name: &'n str, arms: &[ChoiceArm<'n>]) -> Result<usize, BuildError>
-        ensures ok { IfOk result (λ place. IsAdded self.old.nodes.items self.new.nodes.items place
-            (λ node. IsChoiceOf (map (λ a. a.of) arms.now) node.kind)) }
-        ensures err { OnErr result (self.new.nodes.items ≡ self.old.nodes.items) }
+        ensures { Puts self.old.nodes.items self.new.nodes.items
+            (λ node. IsChoiceOf (map (λ a. a.of) arms.now) node.kind ×
+            AreTagsOf self.old.nodes.items (map (λ a. a.of) arms.now) node.tags) result }
     {
         let tags = self.arm_tags(arms)?;
         let labels = arm_names(self.alloc, arms)?;
@@ -670,13 +542,13 @@ impl<'n> Schema<'n> {
         name: &'n str,
         arms: &[ChoiceArm<'n>],
     ) -> Result<usize, BuildError>
-        ensures ok { IfOk result (λ place. IsAddedOpen self.old.nodes.items self.new.nodes.items
-            place (IsOpenChoice (map (λ a. a.of) arms.now))) }
-        ensures grows { (more : List Node) × (self.new.nodes.items ≡ self.old.nodes.items ++ more) }
+        ensures { PutsOpen self.old.nodes.items self.new.nodes.items
+            (map (λ a. a.of) arms.now) (IsOpenChoice (map (λ a. a.of) arms.now)) result }
     {
-        let Tags::Among(tags) = self.arm_tags(arms)? else {
+        let tags = self.arm_tags(arms)?;
+        if matches!(&tags, Tags::AllBut(_)) {
             return Err(BuildError::OpenArm);
-        };
+        }
         let labels = arm_names(self.alloc, arms)?;
         let mut places = arm_places(self.alloc, arms)?;
         let ends = Vec::from_array(self.alloc, [universal(0)])?;
@@ -691,9 +563,8 @@ impl<'n> Schema<'n> {
 
     /// Declares a type with this tag, which is defined later. A table is not sound before.
     pub fn declare(&mut self, name: &'n str, tag: TypeTag) -> Result<usize, BuildError>
-        ensures ok { IfOk result (λ place. IsAdded self.old.nodes.items self.new.nodes.items place
-            (IsOf tag (kinds.Within (length self.old.nodes.items) None None))) }
-        ensures err { OnErr result (self.new.nodes.items ≡ self.old.nodes.items) }
+        ensures { Puts self.old.nodes.items self.new.nodes.items
+            (IsOf tag (kinds.Within (length self.old.nodes.items) None None)) result }
     {
         let own = self.nodes.len();
         let labels = Vec::new(self.alloc);

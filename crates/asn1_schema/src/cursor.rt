@@ -1,19 +1,22 @@
 //! The values on a tape: where one ends, and what is in it. Each is skipped in one step.
 ghost use Rattle.std.specs.Prelude.{ℕ, ℤ, Bool, List, [], ◌++◌, ◌∷◌, ◌+◌, ◌-◌, ◌*◌, ◌≡◌, ◌≤◌, ◌^◌, Some, IfSome};
-ghost use Rattle.std.specs.Prelude.{IfNone, MatchOption, length, take};
+ghost use Rattle.std.specs.Prelude.{IfNone, MatchOption, OnOk, length, take};
+ghost use Rattle.asn1_schema.specs.Values.{leaf};
 ghost use Rattle.asn1_schema.specs.Values.{boolean, integer, enumerated, bits, octets, identifier, text, time};
 ghost use Rattle.asn1_schema.specs.Grammar.{bits_in};
 ghost use Rattle.asn1_schema.specs.Names.{IsPlaceOf, LacksName};
 ghost use Rattle.asn1_schema.specs.declared.schema.TextKind.{TextKind};
 ghost use Rattle.asn1_schema.specs.declared.schema.TimeKind.{TimeKind};
 ghost use Rattle.asn1_schema.specs.Tape.{Mark, Kept, KeptRow, mark, marks, tape_of, tapes_of};
-ghost use Rattle.asn1_schema.specs.Tape.{kept_row, kept_chosen, absent_mark, leaf_mark};
+ghost use Rattle.asn1_schema.specs.Tape.{Sort, string, value_of, kept_row, kept_chosen, absent_mark, leaf_mark};
 ghost use Rattle.asn1_schema.specs.Cursor.{marks_of_first, field_marks, IsNumber};
 
 use crate::counting::inner_items;
+use crate::joined::octets_in;
 use crate::names::{TypeNames, place_of};
 use crate::schema::{TextKind, TimeKind};
 use crate::tape::Item;
+use std::alloc::AllocError;
 use x690::signed::signed_number;
 
 /// How many items a value has that begins with this one; none where a value of an arm follows.
@@ -143,6 +146,20 @@ pub fn truth_of(value: &[Item<'_>]) -> Option<bool>
         Some(Item::Boolean(truth)) => Some(*truth),
         _ => None,
     }
+}
+
+/// Puts the octets of an octet string, a character string or a time behind others. Pieces are joined.
+///
+/// Where memory runs out, the first pieces may stand there.
+pub fn join_octets(value: &[Item<'_>], octets: &mut Vec<u8>) -> Result<(), AllocError>
+    ensures { (kept : Kept) (sort : Sort) (said : List ℕ) → marks value.now ≡ tape_of kept →
+        value_of kept ≡ leaf (string sort said) →
+        OnOk result (octets.new.items ≡ octets.old.items ++ said) }
+{
+    for item in value {
+        octets.extend_from_slice(octets_in(item))?;
+    }
+    Ok(())
 }
 
 /// The octets of an octet string in one piece.

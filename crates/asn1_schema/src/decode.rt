@@ -1,5 +1,5 @@
 //! Values of the types of a table, read by DER and by BER.
-ghost use Rattle.std.specs.Prelude.{ℕ, ◌≡◌, Some, None, true, IfOk, OnOk, IsErrOf};
+ghost use Rattle.std.specs.Prelude.{ℕ, ◌≡◌, ◌≢◌, Some, None, true, IfOk, OnOk, IsErrOf};
 ghost use Rattle.asn1_schema.specs.declared.decode.DecodeError.TheVariants as errors;
 ghost use Rattle.asn1_schema.specs.Grammar.{Word};
 ghost use Rattle.asn1_schema.specs.Rules.{der, ber};
@@ -26,6 +26,8 @@ pub enum DecodeError {
     OutOfMemory,
     /// No word of the type begins the octets.
     Refused,
+    /// No word of the type begins the octets whose elements nest to the depth: they nest deeper.
+    TooDeep,
     /// The element at the front is cut: so many octets are missing at least.
     Incomplete(usize),
     /// A word of the type begins the octets, and others follow.
@@ -36,7 +38,9 @@ pub enum DecodeError {
 fn error_of(coding: Coding, octets: &[u8], fault: Fault) -> DecodeError
     ensures refused { result ≡ errors.Refused → (fault ≡ faults.Refused)
         × TellsMissing (rules_of coding).ElementOf (EndsWithin coding octets.now) octets.now None }
-    ensures cut { (n : ℕ) → result ≡ errors.Incomplete n → (fault ≡ faults.Refused)
+    ensures too_deep { result ≡ errors.TooDeep → (fault ≡ faults.TooDeep)
+        × TellsMissing (rules_of coding).ElementOf (EndsWithin coding octets.now) octets.now None }
+    ensures cut { (n : ℕ) → result ≡ errors.Incomplete n → (fault ≢ faults.Memory)
         × TellsMissing (rules_of coding).ElementOf (EndsWithin coding octets.now) octets.now (Some n) }
     ensures no_other { result ≡ errors.TrailingOctets → ⊥ }
 {
@@ -45,6 +49,10 @@ fn error_of(coding: Coding, octets: &[u8], fault: Fault) -> DecodeError
         Fault::Refused => match missing_octets(coding, octets) {
             Some(n) => DecodeError::Incomplete(n),
             None => DecodeError::Refused,
+        },
+        Fault::TooDeep => match missing_octets(coding, octets) {
+            Some(n) => DecodeError::Incomplete(n),
+            None => DecodeError::TooDeep,
         },
     }
 }
@@ -62,8 +70,8 @@ pub fn decode<'a>(
     requires { is_sound table.now ≡ true }
     ensures ok { IfOk result (λ rest.
         Decodes (IsWordOf coding table.now depth of) octets.now rest.now tape.new.items) }
-    ensures fails { Fails (IsWordOf coding table.now depth of) (EndsWithin coding octets.now)
-        octets.now tape.new.items refusal.new.octet result }
+    ensures fails { Fails table.now (λ d. IsWordOf coding table.now d of) depth (EndsWithin coding octets.now)
+        octets.now tape.new.items refusal.new result }
     ensures never_trailing { IsErrOf result errors.TrailingOctets → ⊥ }
 {
     tape.clear();
@@ -74,7 +82,7 @@ pub fn decode<'a>(
         }
         Err(fault) => {
             tape.clear();
-            refusal.keep_within(octets.len());
+            refusal.settle(fault, table.len(), octets.len());
             Err(error_of(coding, octets, fault))
         }
     }
@@ -93,8 +101,8 @@ pub fn decode_whole<'a>(
     requires { is_sound table.now ≡ true }
     ensures ok { OnOk result (DecodesWhole (IsWordOf coding table.now depth of) octets.now
         tape.new.items) }
-    ensures fails { Fails (IsWordOf coding table.now depth of) (EndsWithin coding octets.now)
-        octets.now tape.new.items refusal.new.octet result }
+    ensures fails { Fails table.now (λ d. IsWordOf coding table.now d of) depth (EndsWithin coding octets.now)
+        octets.now tape.new.items refusal.new result }
     ensures trailing { IsErrOf result errors.TrailingOctets →
         IsFollowed (IsWordOf coding table.now depth of) octets.now }
 {
@@ -117,10 +125,10 @@ pub fn decode_whole<'a>(
 /// `of` is the place of the type in the table. Elements may nest `depth` deep, and one that has no others within
 /// has depth 1. The tape is emptied first, and holds the value of the one word that begins the octets.
 ///
-/// `Refused` says that no word begins the octets, whatever follows, but where they end within identifier octets.
-/// `Incomplete(n)` says that none does with fewer than `n` octets more. An element that nests too deep is refused
-/// with the reason `Depth`. So a word that begins the octets is answered with `Ok` or `OutOfMemory`. A set-of may be in any order, and a default may be written: the strict encodings
-/// (X.690 11.5, 11.6) are asked for apart.
+/// `Refused` says that no word begins the octets to any depth, whatever follows, but where they end within identifier
+/// octets. `TooDeep` says so of this depth alone. `Incomplete(n)` says that none does with fewer than `n` octets more.
+/// So a word that begins the octets is answered with `Ok`, `TooDeep` or `OutOfMemory`. A set-of may be in any order,
+/// and a default may be written: the strict encodings (X.690 11.5, 11.6) are asked for apart.
 pub fn decode_der<'a>(
     table: &'a [Node],
     of: usize,
@@ -132,8 +140,8 @@ pub fn decode_der<'a>(
     requires { is_sound table.now ≡ true }
     ensures ok { IfOk result (λ rest. Decodes (Word der table.now depth of) octets.now rest.now
         tape.new.items) }
-    ensures fails { Fails (Word der table.now depth of) (IsCutIdentifier octets.now)
-        octets.now tape.new.items refusal.new.octet result }
+    ensures fails { Fails table.now (λ d. Word der table.now d of) depth (IsCutIdentifier octets.now)
+        octets.now tape.new.items refusal.new result }
     ensures never_trailing { IsErrOf result errors.TrailingOctets → ⊥ }
 {
     decode(Coding::Der, table, of, depth, octets, tape, refusal)
@@ -154,8 +162,8 @@ pub fn decode_ber<'a>(
     requires { is_sound table.now ≡ true }
     ensures ok { IfOk result (λ rest.
         Decodes (Word (ber max) table.now depth of) octets.now rest.now tape.new.items) }
-    ensures fails { Fails (Word (ber max) table.now depth of) (EndsInIdentifier max octets.now)
-        octets.now tape.new.items refusal.new.octet result }
+    ensures fails { Fails table.now (λ d. Word (ber max) table.now d of) depth
+        (EndsInIdentifier max octets.now) octets.now tape.new.items refusal.new result }
     ensures never_trailing { IsErrOf result errors.TrailingOctets → ⊥ }
 {
     decode(Coding::Ber(max), table, of, depth, octets, tape, refusal)
@@ -174,8 +182,8 @@ pub fn decode_der_whole<'a>(
 ) -> Result<(), DecodeError>
     requires { is_sound table.now ≡ true }
     ensures ok { OnOk result (DecodesWhole (Word der table.now depth of) octets.now tape.new.items) }
-    ensures fails { Fails (Word der table.now depth of) (IsCutIdentifier octets.now)
-        octets.now tape.new.items refusal.new.octet result }
+    ensures fails { Fails table.now (λ d. Word der table.now d of) depth (IsCutIdentifier octets.now)
+        octets.now tape.new.items refusal.new result }
     ensures trailing { IsErrOf result errors.TrailingOctets →
         IsFollowed (Word der table.now depth of) octets.now }
 {
@@ -195,8 +203,8 @@ pub fn decode_ber_whole<'a>(
     requires { is_sound table.now ≡ true }
     ensures ok { OnOk result (DecodesWhole (Word (ber max) table.now depth of) octets.now
         tape.new.items) }
-    ensures fails { Fails (Word (ber max) table.now depth of) (EndsInIdentifier max octets.now)
-        octets.now tape.new.items refusal.new.octet result }
+    ensures fails { Fails table.now (λ d. Word (ber max) table.now d of) depth
+        (EndsInIdentifier max octets.now) octets.now tape.new.items refusal.new result }
     ensures trailing { IsErrOf result errors.TrailingOctets →
         IsFollowed (Word (ber max) table.now depth of) octets.now }
 {

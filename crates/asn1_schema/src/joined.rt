@@ -34,7 +34,7 @@ impl<'t, 'a> Joined<'t, 'a> {
 }
 
 /// The octets of a piece.
-fn octets_in<'a>(piece: &Item<'a>) -> &'a [u8]
+pub(crate) fn octets_in<'a>(piece: &Item<'a>) -> &'a [u8]
     ensures { result.now ≡ octets_of (mark piece.now) }
 {
     match piece {

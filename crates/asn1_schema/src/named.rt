@@ -7,7 +7,7 @@ ghost use Rattle.asn1_schema.specs.declared.pieces.Sort.TheVariants as sorts;
 ghost use Rattle.asn1_schema.specs.Grammar.{trimmed};
 ghost use Rattle.asn1_schema.specs.Values.{joined};
 ghost use Rattle.asn1_schema.specs.Tape.{Mark, marks};
-ghost use Rattle.asn1_schema.specs.Reading.{parts_of, IsOfKind, Judges, ReadsValue};
+ghost use Rattle.asn1_schema.specs.Reading.{parts_of, HoldsAt, IsOfKind, Judges, ReadsValue};
 ghost use Rattle.asn1_schema.specs.Pieces.{piece_mark};
 ghost use Rattle.asn1_schema.specs.Bits.{IsNamedPrimitive, IsNamedConstructed, TrimsPieces};
 
@@ -68,7 +68,8 @@ fn named_constructed<'a>(
     content: &'a [u8],
     tape: &mut Vec<Item<'a>>,
 ) -> Result<(), Fault>
-    ensures { ReadsValue (IsNamedConstructed (codings.Ber max) depth content.now) tape.old.items
+    ensures { (d : ℕ) → HoldsAt depth result d →
+        ReadsValue (IsNamedConstructed (codings.Ber max) d content.now) tape.old.items
         tape.new.items result }
 {
     let place = tape.len();
@@ -93,8 +94,8 @@ pub(crate) fn read_bits<'a>(
     content: &'a [u8],
     tape: &mut Vec<Item<'a>>,
 ) -> Result<(), Fault>
-    ensures { (nodes : List Node) (of : ℕ) →
-        ReadsValue (IsOfKind coding nodes depth of (kinds.Bits named) (parts_of head content.now))
+    ensures { (nodes : List Node) (of d : ℕ) → HoldsAt depth result d →
+        ReadsValue (IsOfKind coding nodes d of (kinds.Bits named) (parts_of head content.now))
         tape.old.items tape.new.items result }
 {
     if !named {

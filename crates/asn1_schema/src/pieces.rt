@@ -7,7 +7,7 @@ ghost use Rattle.asn1_schema.specs.Values.{joined};
 ghost use Rattle.asn1_schema.specs.declared.coding.Coding.{Coding};
 ghost use Rattle.asn1_schema.specs.Grammar.{StringOf};
 ghost use Rattle.asn1_schema.specs.Tape.{Mark, mark, marks, pieces_mark};
-ghost use Rattle.asn1_schema.specs.Reading.{parts_of, Judges, ReadsValue};
+ghost use Rattle.asn1_schema.specs.Reading.{parts_of, HoldsAt, Judges, ReadsValue};
 ghost use Rattle.asn1_schema.specs.Pieces.{Elem, string_of, piece_mark, IsPiece, ArePieces};
 ghost use Rattle.asn1_schema.specs.Pieces.{SaysPiece, ReadsPieces, ClosesPieces, IsSaid, IsStringOf, IsPrimitiveOf};
 ghost use Rattle.asn1_schema.specs.Pieces.{IsConstructedOf};
@@ -94,15 +94,15 @@ fn read_piece<'a>(
     content: &'a [u8],
     tape: &mut Vec<Item<'a>>,
 ) -> Result<bool, Fault>
-    ensures { ReadsPieces coding sort
-        (IsPiece coding (string_of coding sort) depth (parts_of head content.now))
+    ensures { (d : ℕ) → HoldsAt depth result d → ReadsPieces coding sort
+        (IsPiece coding (string_of coding sort) d (parts_of head content.now))
         tape.old.items tape.new.items result }
 {
-    if depth == 0 {
-        return Err(Fault::Refused);
-    }
     if head.class != 0 || head.number != piece_number(sort) {
         return Err(Fault::Refused);
+    }
+    if depth == 0 {
+        return Err(Fault::TooDeep);
     }
     if !head.constructed {
         return put_piece(coding, sort, content, tape);
@@ -122,7 +122,8 @@ pub(crate) fn read_pieces<'a>(
     content: &'a [u8],
     tape: &mut Vec<Item<'a>>,
 ) -> Result<bool, Fault>
-    ensures { ReadsPieces coding sort (ArePieces coding (string_of coding sort) depth content.now)
+    ensures { (d : ℕ) → HoldsAt depth result d → ReadsPieces coding sort
+        (ArePieces coding (string_of coding sort) d content.now)
         tape.old.items tape.new.items result }
 {
     let mut rest = content;
@@ -230,7 +231,8 @@ fn read_constructed<'a>(
     content: &'a [u8],
     tape: &mut Vec<Item<'a>>,
 ) -> Result<(), Fault>
-    ensures { ReadsValue (IsConstructedOf (codings.Ber max) sort depth content.now) tape.old.items
+    ensures { (d : ℕ) → HoldsAt depth result d →
+        ReadsValue (IsConstructedOf (codings.Ber max) sort d content.now) tape.old.items
         tape.new.items result }
 {
     let place = tape.len();
@@ -257,7 +259,8 @@ pub(crate) fn read_string<'a>(
     content: &'a [u8],
     tape: &mut Vec<Item<'a>>,
 ) -> Result<(), Fault>
-    ensures { ReadsValue (IsStringOf coding sort depth (parts_of head content.now)) tape.old.items
+    ensures { (d : ℕ) → HoldsAt depth result d →
+        ReadsValue (IsStringOf coding sort d (parts_of head content.now)) tape.old.items
         tape.new.items result }
 {
     if !head.constructed {

@@ -1,9 +1,9 @@
 //! One reader for all types of all sound tables, by DER and by BER.
-ghost use Rattle.std.specs.Prelude.{◌≡◌, ◌<◌, true, length, IfOk};
+ghost use Rattle.std.specs.Prelude.{ℕ, ◌≡◌, ◌<◌, true, length, IfOk};
 ghost use Rattle.asn1_schema.specs.Sound.{is_sound, fields_told, arms_told, all_before};
 ghost use Rattle.asn1_schema.specs.Reading.{rules_of, parts_of, IsBody, IsArmOf, AreFieldsOf, AreItemsOf};
 ghost use Rattle.asn1_schema.specs.Reading.{IsRowOf, IsWordOf, BeginsWord, ReadsValue, ReadsRow, ReadsFront};
-ghost use Rattle.asn1_schema.specs.Reading.{ReadsField, BeginsTagged};
+ghost use Rattle.asn1_schema.specs.Reading.{ReadsField, BeginsTagged, HoldsAt};
 
 use crate::any::any_item;
 use crate::bounds::judge_bounds;
@@ -34,13 +34,10 @@ fn read_body<'a>(
     refusal: &mut Refusal,
 ) -> Result<(), Fault>
     requires { is_sound nodes.now ≡ true }
-    ensures { ReadsValue (IsBody coding nodes.now depth of (parts_of head content.now))
+    ensures { (d : ℕ) → HoldsAt depth result d →
+        ReadsValue (IsBody coding nodes.now d of (parts_of head content.now))
         tape.old.items tape.new.items result }
 {
-    if depth == 0 {
-        refusal.tell(head.start, of, Reason::Depth);
-        return Err(Fault::Refused);
-    }
     let Some(node) = node_at(nodes, of) else {
         refusal.tell(head.start, of, Reason::MissingType);
         return Err(Fault::Refused);
@@ -48,6 +45,10 @@ fn read_body<'a>(
     if !has_a_tag(&node.tags, head) {
         refusal.tell(head.start, of, Reason::Tag);
         return Err(Fault::Refused);
+    }
+    if depth == 0 {
+        refusal.tell(head.start, of, Reason::Depth);
+        return Err(Fault::TooDeep);
     }
     match &node.kind {
         Kind::Sequence(fields, unknown) => {
@@ -185,7 +186,8 @@ fn read_choice<'a>(
     requires told { arms_told nodes.now arms.now ≡ true }
     requires within { of < length nodes.now }
     requires order { all_before of arms.now ≡ true }
-    ensures { ReadsValue (IsArmOf coding nodes.now depth arms.now (parts_of head content.now))
+    ensures { (d : ℕ) → HoldsAt depth result d →
+        ReadsValue (IsArmOf coding nodes.now d arms.now (parts_of head content.now))
         tape.old.items tape.new.items result }
 {
     let Some((k, arm)) = arm_of(nodes, arms, head) else {
@@ -215,7 +217,8 @@ pub(crate) fn read_front<'a>(
     refusal: &mut Refusal,
 ) -> Result<&'a [u8], Fault>
     requires { is_sound nodes.now ≡ true }
-    ensures value { ReadsFront (BeginsWord coding nodes.now depth of octets.now)
+    ensures value { (d : ℕ) → HoldsAt depth result d →
+        ReadsFront (BeginsWord coding nodes.now d of octets.now)
         tape.old.items tape.new.items result }
     ensures shorter { IfOk result (λ rest. length rest.now < length octets.now) }
 {
@@ -242,7 +245,8 @@ fn read_whole<'a>(
     refusal: &mut Refusal,
 ) -> Result<(), Fault>
     requires { is_sound nodes.now ≡ true }
-    ensures { ReadsValue (IsWordOf coding nodes.now depth of octets.now)
+    ensures { (d : ℕ) → HoldsAt depth result d →
+        ReadsValue (IsWordOf coding nodes.now d of octets.now)
         tape.old.items tape.new.items result }
 {
     match read_front(coding, nodes, depth, of, octets, at, tape, refusal) {
@@ -278,7 +282,8 @@ fn read_row<'a>(
 ) -> Result<(), Fault>
     requires sound { is_sound nodes.now ≡ true }
     requires told { fields_told nodes.now unknown fields.now ≡ true }
-    ensures { ReadsValue (IsRowOf coding nodes.now depth unknown fields.now constructed octets.now)
+    ensures { (d : ℕ) → HoldsAt depth result d →
+        ReadsValue (IsRowOf coding nodes.now d unknown fields.now constructed octets.now)
         tape.old.items tape.new.items result }
 {
     if !constructed {
@@ -312,7 +317,8 @@ fn read_fields<'a>(
 ) -> Result<(), Fault>
     requires sound { is_sound nodes.now ≡ true }
     requires told { fields_told nodes.now unknown fields.now ≡ true }
-    ensures { ReadsRow (AreFieldsOf coding nodes.now depth unknown fields.now octets.now)
+    ensures { (d : ℕ) → HoldsAt depth result d →
+        ReadsRow (AreFieldsOf coding nodes.now d unknown fields.now octets.now)
         tape.old.items tape.new.items result }
 {
     let mut rest = octets;
@@ -376,7 +382,8 @@ fn read_items<'a>(
     refusal: &mut Refusal,
 ) -> Result<(), Fault>
     requires { is_sound nodes.now ≡ true }
-    ensures { ReadsRow (AreItemsOf coding nodes.now depth of octets.now)
+    ensures { (d : ℕ) → HoldsAt depth result d →
+        ReadsRow (AreItemsOf coding nodes.now d of octets.now)
         tape.old.items tape.new.items result }
 {
     let mut rest = octets;
@@ -411,7 +418,8 @@ fn read_field<'a>(
     refusal: &mut Refusal,
 ) -> Result<&'a [u8], Fault>
     requires { is_sound nodes.now ≡ true }
-    ensures { ReadsField (rules_of coding) (IsBody coding nodes.now depth field.now.of)
+    ensures { (d : ℕ) → HoldsAt depth result d →
+        ReadsField (rules_of coding) (IsBody coding nodes.now d field.now.of)
         (BeginsTagged (rules_of coding) nodes.now field.now.of octets.now) field.now.presence
         octets.now
         tape.old.items tape.new.items result }

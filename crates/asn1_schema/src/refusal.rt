@@ -1,5 +1,9 @@
 //! Where and why octets are refused. It stands beside the result of a call, so that results stay small.
-ghost use Rattle.std.specs.Prelude.{◌≤◌, ◌≡◌};
+ghost use Rattle.std.specs.Prelude.{◌<◌, ◌≤◌, ◌≡◌, ◌⊎◌};
+ghost use Rattle.asn1_schema.specs.declared.fault.Fault.TheVariants as faults;
+ghost use Rattle.asn1_schema.specs.declared.refusal.Reason.TheVariants as reasons;
+
+use crate::fault::Fault;
 
 /// Why octets are refused.
 #[derive(Debug, Clone, Copy, PartialEq, Eq)]
@@ -66,6 +70,23 @@ impl Refusal {
     pub(crate) fn tell_field(&mut self, field: usize) {
         if self.field.is_none() {
             self.field = Some(field);
+        }
+    }
+
+    /// Ends what is told to a caller whose table has so many types, and whose input has so many octets.
+    ///
+    /// Where elements nest too deep this is why. Else a place that the table does not have is why.
+    pub(crate) fn settle(&mut self, fault: Fault, types: usize, len: usize)
+        ensures within { self.new.octet ≤ len }
+        ensures deep { fault ≡ faults.TooDeep → self.new.reason ≡ reasons.Depth }
+        ensures of { fault ≡ faults.Refused →
+            (self.new.of < types) ⊎ (self.new.reason ≡ reasons.MissingType) }
+    {
+        self.keep_within(len);
+        if matches!(fault, Fault::TooDeep) {
+            self.reason = Reason::Depth;
+        } else if self.of >= types {
+            self.reason = Reason::MissingType;
         }
     }
 

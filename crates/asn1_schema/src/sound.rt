@@ -7,7 +7,7 @@ use crate::tagged::node_at;
 use crate::unsound::{Shared, TypeFault, Unsound};
 
 /// Whether the tag is one of these.
-fn is_among(tag: TypeTag, others: &[TypeTag]) -> bool
+pub(crate) fn is_among(tag: TypeTag, others: &[TypeTag]) -> bool
     ensures { result ≡ spec.is_among tag others.now }
 {
     others.iter().any(|other| other.class == tag.class && other.number == tag.number)
@@ -411,20 +411,7 @@ fn leads_ahead(of: usize, kind: &Kind) -> Option<usize>
     match kind {
         Kind::Choice(arms) => first_ahead(of, arms),
         Kind::Within(inner, _, _) => { if *inner < of { None } else { Some(*inner) } }
-        Kind::Sequence(_, _) => None,
-        Kind::Any => None,
-        Kind::Boolean => None,
-        Kind::Null => None,
-        Kind::Integer => None,
-        Kind::Enumerated(_, _) => None,
-        Kind::Bits(_) => None,
-        Kind::Octets => None,
-        Kind::Identifier(_) => None,
-        Kind::Text(_) => None,
-        Kind::Time(_) => None,
-        Kind::SequenceOf(_) => None,
-        Kind::SetOf(_) => None,
-        Kind::Explicit(_) => None,
+        _ => None,
     }
 }
 

@@ -1,22 +1,46 @@
-use Rattle.std.proofs.Common.{refl}
+use Rattle.std.proofs.Common.{refl, ◌-◌, arith}
+use Rattle.std.proofs.lemmas.Bool.{not-true, not-false}
 use Rattle.asn1_schema.specs.Reading.{parts_of}
-use Rattle.asn1_schema.proofs.AnyParts.{strict_more, strict_less, strict_none}
+use Rattle.asn1_schema.specs.Rules.{IsStrictInside}
+use Rattle.asn1_schema.proofs.Depths.{unless, least, fault_least, within, admits_map}
+use Rattle.asn1_schema.proofs.AnyParts.{AreStrict, inside_primitive, inside_none, inside_made, inside_of, strict_end, strict_more, strict_less, strict_none}
 use Rattle.asn1_schema.proofs.any.+inside.Goals as goal
 
-pub are_strict-returns-in_default-clause-no : goal.are_strict-returns-in_default-clause-no
-are_strict-returns-in_default-clause-no t c = λ a. absurd (strict_none c.args.depth c.loop-rest.rest.now
-    (λ e. let f = c.loop-rest-test.ensures.no e in absurd (cc)) c.in_default.ensures.none (c.loop-rest.invariant.down a))
+pub judge_inside-returns-then-not-head : goal.judge_inside-returns-then-not-head
+judge_inside-returns-then-not-head t c = λ d h. inside_primitive d (parts_of c.args.head c.args.content.now)
+    (not-true c.args.head.constructed c.if-not-head.true)
 
-pub are_strict-returns-then-not-is_strict_inside-clause-no : goal.are_strict-returns-then-not-is_strict_inside-clause-no
-are_strict-returns-then-not-is_strict_inside-clause-no t c = λ a.
-    let b = strict_less c.args.depth c.loop-rest.rest.now c.in-Some.tail.now (parts_of c.in-Some.head c.in-Some.content.now)
-    c.in-Some.ensures.some (c.loop-rest.invariant.down a) in
-    c.if-not-is_strict_inside.ensures.no b.1
+pub judge_inside-returns-then-depth-eq0 : goal.judge_inside-returns-then-depth-eq0
+judge_inside-returns-then-depth-eq0 t c = λ d h. inside_none d (parts_of c.args.head c.args.content.now)
+    (grind (arith, c.if-depth-eq0.true, h)) (not-false c.args.head.constructed c.if-not-head.false)
 
-pub are_strict-loop-rest-preserved : goal.are_strict-loop-rest-preserved
-are_strict-loop-rest-preserved t c = record {
-  up = λ a. c.loop-rest.invariant.up (strict_more c.args.depth c.loop-rest.rest.now c.in-Some.tail.now
-      (parts_of c.in-Some.head c.in-Some.content.now) c.in-Some.ensures.some (c.if-not-is_strict_inside.ensures.yes refl) a);
-  down = λ a. (strict_less c.args.depth c.loop-rest.rest.now c.in-Some.tail.now (parts_of c.in-Some.head c.in-Some.content.now)
-      c.in-Some.ensures.some (c.loop-rest.invariant.down a)).0;
+pub judge_inside-returns : goal.judge_inside-returns
+judge_inside-returns t c = λ d h.
+    let p = parts_of c.args.head c.args.content.now in
+    let l = least c.args.depth c.judge_elements.result d h in
+    admits_map (AreStrict (d - 1) c.args.content.now) (IsStrictInside d p)
+    (inside_made d p (grind (arith, c.if-depth-eq0.false, l)))
+    (inside_of d p (not-false c.args.head.constructed c.if-not-head.false)) c.judge_elements.result
+    (c.judge_elements.ensures (d - 1) (within c.args.depth c.judge_elements.result d (grind (arith, c.if-depth-eq0.false)) h))
+
+pub judge_elements-returns-in_default : goal.judge_elements-returns-in_default
+judge_elements-returns-in_default t c = λ d h a. absurd (strict_none d c.loop-rest.rest.now
+    (λ e. let f = c.loop-rest-test.ensures.no e in absurd (cc)) c.in_default.ensures.none (c.loop-rest.invariant.down d h a))
+
+pub judge_elements-returns-in-Err : goal.judge_elements-returns-in-Err
+judge_elements-returns-in-Err t c = λ d h.
+    let p = parts_of c.in-Some.head c.in-Some.content.now in
+    let l = fault_least c.args.depth c.in-Err.e d h in
+    unless c.in-Err.e _ _ (λ n a. n (strict_less d c.loop-rest.rest.now c.in-Some.tail.now p
+    c.in-Some.ensures.some (c.loop-rest.invariant.down d l a)).1) (c.in-Err.ensures d h)
+
+pub judge_elements-returns : goal.judge_elements-returns
+judge_elements-returns t c = λ d h. c.loop-rest.invariant.up d h (strict_end d c.loop-rest.rest.now (c.loop-rest-test.ensures.yes refl))
+
+pub judge_elements-loop-rest-preserved : goal.judge_elements-loop-rest-preserved
+judge_elements-loop-rest-preserved t c = record {
+  up = λ d l a. c.loop-rest.invariant.up d l (strict_more d c.loop-rest.rest.now c.in-Some.tail.now
+      (parts_of c.in-Some.head c.in-Some.content.now) c.in-Some.ensures.some (c.in-Ok.ensures d l) a);
+  down = λ d l a. (strict_less d c.loop-rest.rest.now c.in-Some.tail.now (parts_of c.in-Some.head c.in-Some.content.now)
+      c.in-Some.ensures.some (c.loop-rest.invariant.down d l a)).0;
 }

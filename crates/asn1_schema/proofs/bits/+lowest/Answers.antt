@@ -1,4 +1,4 @@
-use Rattle.std.proofs.Common.{◌<◌, ◌∙◌, sym, arith}
+use Rattle.std.proofs.Common.{◌∙◌, sym, arith}
 use Rattle.asn1_schema.proofs.ZerosTaken.{set_last, some_later, none_later}
 use Rattle.asn1_schema.proofs.bits.+lowest.Goals as goal
 

@@ -1,6 +1,5 @@
-use Rattle.std.proofs.Common.{◌≡◌, sym, subst, ap, refl, List, Bool}
+use Rattle.std.proofs.Common.{sym, subst, ap, refl, List, Bool}
 use Rattle.asn1_schema.specs.declared.coding.Coding.{Coding}
-use Rattle.asn1_schema.specs.Grammar.{trimmed}
 use Rattle.asn1_schema.specs.Values.{bits, leaf}
 use Rattle.asn1_schema.specs.Bits.{used_bits}
 use Rattle.asn1_schema.specs.Reading.{rules_of}

@@ -1,4 +1,4 @@
-use Rattle.std.proofs.Common.{◌∙◌, refl, sym, ap, ℕ, ◌-◌, take, arith}
+use Rattle.std.proofs.Common.{◌∙◌, sym, ap, ℕ, ◌-◌, take, arith}
 use Rattle.asn1_schema.specs.Grammar.{trimmed}
 use Rattle.asn1_schema.specs.Bits.{used_bits}
 use Rattle.asn1_schema.proofs.ZerosTaken.{set_there, none_there}

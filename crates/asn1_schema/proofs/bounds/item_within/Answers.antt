@@ -1,4 +1,4 @@
-use Rattle.std.proofs.Common.{◌∙◌, sym, subst, ap, ℕ, ◌*◌, ◌-◌, length, take, arith}
+use Rattle.std.proofs.Common.{◌∙◌, sym, subst, ap, ◌*◌, ◌-◌, length, take, arith}
 use Rattle.asn1_schema.specs.Values.{characters}
 use Rattle.asn1_schema.specs.Grammar.{bits_in}
 use Rattle.asn1_schema.specs.Tape.{Mark, mark}

@@ -1,9 +1,7 @@
-use Rattle.std.proofs.Common.{◌≡◌, ◌∙◌, ap, subst, ℕ, Some, length, arith}
-use Rattle.std.specs.Prelude.{pos}
+use Rattle.std.proofs.Common.{◌≡◌, ◌∙◌, ap, length, arith}
 use Rattle.asn1_schema.specs.Values.{count}
 use Rattle.asn1_schema.specs.Counting.{values_from}
 use Rattle.asn1_schema.specs.Tape.{marks, begin_mark, end_mark, tapes_of, values_of}
-use Rattle.asn1_schema.specs.Reading.{JudgesBounds}
 use Rattle.asn1_schema.proofs.Counts.{count_of_row}
 use Rattle.asn1_schema.proofs.bounds.row_within.Goals as goal
 

@@ -9,9 +9,11 @@ returns-in-Err-clause-fails c =
     let fails = c.in-Err.ensures.fails in
     record {
       refused = λ e. fails.refused (same_error (Bor (List ℕ)) c.in-Err.error errors.Refused e);
-      lasting = λ e. fails.lasting (same_error (Bor (List ℕ)) c.in-Err.error errors.Refused e);
+      too_deep = λ e. fails.too_deep (same_error (Bor (List ℕ)) c.in-Err.error errors.TooDeep e);
       cut = λ n e. fails.cut n (same_error (Bor (List ℕ)) c.in-Err.error (errors.Incomplete n) e);
       incomplete = λ n e. fails.incomplete n (same_error (Bor (List ℕ)) c.in-Err.error (errors.Incomplete n) e);
       emptied = fails.emptied;
       within = fails.within;
+      of = λ e. fails.of (same_error (Bor (List ℕ)) c.in-Err.error errors.Refused e);
+      deep = λ e. fails.deep (same_error (Bor (List ℕ)) c.in-Err.error errors.TooDeep e);
     }

@@ -1,4 +1,4 @@
-use Rattle.std.proofs.Common.{◌≡◌, ◌≤◌, sym, ap, ◌∙◌, List, ℕ, ◌++◌, take, length, append-nil, arith}
+use Rattle.std.proofs.Common.{◌≡◌, sym, ap, ◌∙◌, List, ℕ, ◌++◌, take, append-nil, arith}
 use Rattle.std.proofs.lemmas.List.{take_all, length-take-le}
 use Rattle.asn1_schema.specs.Joined.{said}
 use Rattle.asn1_schema.proofs.joined.first_four.Goals as goal

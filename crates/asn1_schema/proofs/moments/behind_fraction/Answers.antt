@@ -1,5 +1,4 @@
 use Rattle.asn1_schema.specs.Joined.{said}
-use Rattle.std.specs.Prelude.{IfSome}
 use Rattle.asn1_schema.proofs.MomentTexts.{no_fraction, if_fraction, fraction_only, fraction_other, fraction_empty, local_no_digit}
 use Rattle.asn1_schema.proofs.moments.behind_fraction.Goals as goal
 

@@ -1,4 +1,4 @@
-use Rattle.std.proofs.Common.{sym, subst, List, Bool}
+use Rattle.std.proofs.Common.{subst, List, Bool}
 use Rattle.asn1_schema.specs.Bits.{used_bits, IsNamed, IsNamedPrimitive}
 use Rattle.asn1_schema.specs.Reading.{rules_of}
 use Rattle.asn1_schema.proofs.Strings.{one_bits}

@@ -9,7 +9,7 @@ use Rattle.asn1_schema.specs.declared.schema.TimeKind.{TimeKind}
 use Rattle.asn1_schema.specs.Rules.{IsTime}
 use Rattle.asn1_schema.specs.Grammar.{IsText}
 use Rattle.asn1_schema.specs.Tape.{marks}
-use Rattle.asn1_schema.specs.Joined.{all_octets, said}
+use Rattle.asn1_schema.specs.Joined.{all_octets}
 use Rattle.asn1_schema.specs.Pieces.{Elem, piece_mark, IsSaid}
 use Rattle.asn1_schema.proofs.pieces.are_said.Goals as goal
 

@@ -1,6 +1,6 @@
 use Rattle.std.proofs.Common.{◌↔◌, sym, subst, List, ℕ, IsTrue}
 use Rattle.asn1_schema.specs.declared.pieces.Sort.{Sort}
-use Rattle.asn1_schema.specs.Grammar.{StringOf, IsText}
+use Rattle.asn1_schema.specs.Grammar.{IsText}
 use Rattle.asn1_schema.specs.Reading.{rules_of}
 use Rattle.asn1_schema.specs.Pieces.{Elem, string_of, IsSaid}
 use Rattle.asn1_schema.proofs.pieces.is_said.Goals as goal

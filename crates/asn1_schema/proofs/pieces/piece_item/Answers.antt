@@ -3,7 +3,6 @@ use Rattle.std.specs.Prelude.{nat_eq}
 use Rattle.std.proofs.lemmas.Bool.{eqb-true}
 use Rattle.asn1_schema.specs.declared.tape.Item.TheVariants as items
 use Rattle.asn1_schema.specs.declared.pieces.Sort.{Sort}
-use Rattle.asn1_schema.specs.Grammar.{StringOf}
 use Rattle.asn1_schema.specs.Bits.{used_bits}
 use Rattle.asn1_schema.specs.Pieces.{Elem, string_of, SaysPiece}
 use Rattle.asn1_schema.proofs.BitsTaken.{bits_taken}

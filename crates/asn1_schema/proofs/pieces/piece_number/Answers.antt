@@ -1,6 +1,5 @@
 use Rattle.std.proofs.Common.{◌≡◌, sym, subst, refl}
 use Rattle.asn1_schema.specs.declared.pieces.Sort.{Sort}
-use Rattle.asn1_schema.specs.Grammar.{StringOf}
 use Rattle.asn1_schema.specs.Pieces.{string_of}
 use Rattle.asn1_schema.proofs.pieces.piece_number.Goals as goal
 

@@ -1,4 +1,3 @@
-use Rattle.asn1_schema.specs.Grammar.{StringOf}
 use Rattle.asn1_schema.specs.Pieces.{string_of}
 use Rattle.asn1_schema.proofs.TakenPieces.{piece_put, piece_unput}
 use Rattle.asn1_schema.proofs.pieces.put_piece.Goals as goal

@@ -14,21 +14,22 @@ use Rattle.asn1_schema.specs.Sound.{is_single, kind_told, fields_told, arms_told
 use Rattle.asn1_schema.specs.Reading.{rules_of, parts_of, IsBody, IsOfKind, IsArmOf, AreFieldsOf, AreItemsOf, IsRowOf, IsListed, Judges, ReadsValue, ReadsRow, MayNot, Leaves, PutsValue}
 use Rattle.asn1_schema.specs.declared.pieces.Sort.TheVariants as sorts
 use Rattle.asn1_schema.specs.Pieces.{IsStringOf}
+use Rattle.asn1_schema.proofs.Depths.{least, fault_least, within, fault_within}
 use Rattle.asn1_schema.proofs.Tags.{arm_before, first_holds, second_holds, node_told}
 use Rattle.asn1_schema.proofs.OneValue.{tag_of_body}
-use Rattle.asn1_schema.proofs.Taken.{lawful_of, written_of, no_leaf, body_some, reads_map, reads_up, kind_refused, order_of, no_type, other_tag, set_read, no_element, front_shorter, front_read, front_refused, whole_read, not_whole, whole_refused, explicit_read, no_arm, arm_read, arm_refused, choice_read, within_read, within_judged, bounds_order, leaf_read, leaf_put}
+use Rattle.asn1_schema.proofs.Taken.{lawful_of, written_of, no_leaf, body_some, reads_map, reads_up, kind_refused, order_of, no_type, other_tag, set_read, no_element, front_shorter, front_read, front_refused, whole_read, not_whole, whole_refused, explicit_read, no_arm, arm_read, arm_refused, choice_read, within_read, within_judged, bounds_order, leaf_read, leaf_up}
 use Rattle.asn1_schema.proofs.Bounded.{bounds_refused}
 use Rattle.asn1_schema.proofs.TakenRows.{nothing_yet, row_read, row_refused, item_more, items_refused, items_done, fields_further, fields_refused, fields_ended, fields_done, fields_over, field_there, field_refused, field_default, no_tag}
 use Rattle.asn1_schema.proofs.reading.+reading.Goals as goal
 
 pub read_body-returns-then-depth-eq0 : goal.read_body-returns-then-depth-eq0
-read_body-returns-then-depth-eq0 t c = λ v b. body_some (rules_of c.args.coding) c.args.nodes.now c.args.depth c.args.of (parts_of c.args.head c.args.content.now) v b (grind (arith, c.if-depth-eq0.true))
+read_body-returns-then-depth-eq0 t c = λ d h v b. body_some (rules_of c.args.coding) c.args.nodes.now d c.args.of (parts_of c.args.head c.args.content.now) v b (grind (arith, c.if-depth-eq0.true, h))
 
 pub read_body-returns-in_default : goal.read_body-returns-in_default
-read_body-returns-in_default t c = no_type (rules_of c.args.coding) c.args.nodes.now c.args.depth c.args.of (parts_of c.args.head c.args.content.now) c.in_default.ensures.none
+read_body-returns-in_default t c = λ d h. no_type (rules_of c.args.coding) c.args.nodes.now d c.args.of (parts_of c.args.head c.args.content.now) c.in_default.ensures.none
 
 pub read_body-returns-then-not-has_a_tag : goal.read_body-returns-then-not-has_a_tag
-read_body-returns-then-not-has_a_tag t c = other_tag (rules_of c.args.coding) c.args.nodes.now c.args.depth c.args.of (parts_of c.args.head c.args.content.now) c.in-Some.node.now c.in-Some.ensures.some (sym c.if-not-has_a_tag.ensures)
+read_body-returns-then-not-has_a_tag t c = λ d h. other_tag (rules_of c.args.coding) c.args.nodes.now d c.args.of (parts_of c.args.head c.args.content.now) c.in-Some.node.now c.in-Some.ensures.some (sym c.if-not-has_a_tag.ensures)
 
 pub read_body-read_row-requires : goal.read_body-read_row-requires
 read_body-read_row-requires t c =
@@ -52,89 +53,94 @@ read_body-read_choice-requires t c =
     search rules
 
 pub read_body-returns-in-Sequence : goal.read_body-returns-in-Sequence
-read_body-returns-in-Sequence t c = reads_up (rules_of c.args.coding) c.args.nodes.now c.args.depth c.args.of (parts_of c.args.head c.args.content.now) c.in-Some.node.now (kinds.Sequence c.in-Sequence.fields c.in-Sequence.unknown) c.args.tape.now.items c.read_row.new.tape.items c.read_row.result (grind (arith, c.if-depth-eq0.false)) c.in-Some.ensures.some (sym c.if-not-has_a_tag.ensures) c.in-Sequence.is
-    (subst (λ (z : List Field). ReadsValue (IsRowOf c.args.coding c.args.nodes.now (c.args.depth - 1) c.in-Sequence.unknown z c.args.head.constructed c.args.content.now)
-    c.args.tape.now.items c.read_row.new.tape.items c.read_row.result) c.deref.ensures.value c.read_row.ensures)
+read_body-returns-in-Sequence t c = λ d h. let l = least c.args.depth c.read_row.result d h in reads_up (rules_of c.args.coding) c.args.nodes.now d c.args.of (parts_of c.args.head c.args.content.now) c.in-Some.node.now (kinds.Sequence c.in-Sequence.fields c.in-Sequence.unknown) c.args.tape.now.items c.read_row.new.tape.items c.read_row.result (grind (arith, c.if-depth-eq0.false, l)) c.in-Some.ensures.some (sym c.if-not-has_a_tag.ensures) c.in-Sequence.is
+    (subst (λ (z : List Field). ReadsValue (IsRowOf c.args.coding c.args.nodes.now (d - 1) c.in-Sequence.unknown z c.args.head.constructed c.args.content.now)
+    c.args.tape.now.items c.read_row.new.tape.items c.read_row.result) c.deref.ensures.value (c.read_row.ensures (d - 1) (within c.args.depth c.read_row.result d (grind (arith, c.if-depth-eq0.false)) h)))
 
 pub read_body-returns-in-SequenceOf : goal.read_body-returns-in-SequenceOf
-read_body-returns-in-SequenceOf t c = reads_up (rules_of c.args.coding) c.args.nodes.now c.args.depth c.args.of (parts_of c.args.head c.args.content.now) c.in-Some.node.now (kinds.SequenceOf c.in-SequenceOf.inner) c.args.tape.now.items c.read_row-in-SequenceOf.new.tape.items c.read_row-in-SequenceOf.result (grind (arith, c.if-depth-eq0.false)) c.in-Some.ensures.some (sym c.if-not-has_a_tag.ensures) c.in-SequenceOf.is
-    c.read_row-in-SequenceOf.ensures
+read_body-returns-in-SequenceOf t c = λ d h. let l = least c.args.depth c.read_row-in-SequenceOf.result d h in reads_up (rules_of c.args.coding) c.args.nodes.now d c.args.of (parts_of c.args.head c.args.content.now) c.in-Some.node.now (kinds.SequenceOf c.in-SequenceOf.inner) c.args.tape.now.items c.read_row-in-SequenceOf.new.tape.items c.read_row-in-SequenceOf.result (grind (arith, c.if-depth-eq0.false, l)) c.in-Some.ensures.some (sym c.if-not-has_a_tag.ensures) c.in-SequenceOf.is
+    (c.read_row-in-SequenceOf.ensures (d - 1) (within c.args.depth c.read_row-in-SequenceOf.result d (grind (arith, c.if-depth-eq0.false)) h))
 
 pub read_body-returns-in-SetOf : goal.read_body-returns-in-SetOf
-read_body-returns-in-SetOf t c = reads_up (rules_of c.args.coding) c.args.nodes.now c.args.depth c.args.of (parts_of c.args.head c.args.content.now) c.in-Some.node.now (kinds.SetOf c.in-SetOf.inner) c.args.tape.now.items c.read_row-in-SetOf.new.tape.items c.read_row-in-SetOf.result (grind (arith, c.if-depth-eq0.false)) c.in-Some.ensures.some (sym c.if-not-has_a_tag.ensures) c.in-SetOf.is
-    (set_read c.args.coding (IsBody c.args.coding c.args.nodes.now (c.args.depth - 1) c.in-SetOf.inner)
-    c.args.head.constructed c.args.content.now c.args.tape.now.items c.read_row-in-SetOf.new.tape.items c.read_row-in-SetOf.result c.read_row-in-SetOf.ensures)
+read_body-returns-in-SetOf t c = λ d h. let l = least c.args.depth c.read_row-in-SetOf.result d h in reads_up (rules_of c.args.coding) c.args.nodes.now d c.args.of (parts_of c.args.head c.args.content.now) c.in-Some.node.now (kinds.SetOf c.in-SetOf.inner) c.args.tape.now.items c.read_row-in-SetOf.new.tape.items c.read_row-in-SetOf.result (grind (arith, c.if-depth-eq0.false, l)) c.in-Some.ensures.some (sym c.if-not-has_a_tag.ensures) c.in-SetOf.is
+    (set_read c.args.coding (IsBody c.args.coding c.args.nodes.now (d - 1) c.in-SetOf.inner)
+    c.args.head.constructed c.args.content.now c.args.tape.now.items c.read_row-in-SetOf.new.tape.items c.read_row-in-SetOf.result (c.read_row-in-SetOf.ensures (d - 1) (within c.args.depth c.read_row-in-SetOf.result d (grind (arith, c.if-depth-eq0.false)) h)))
 
 pub read_body-returns-in-Choice : goal.read_body-returns-in-Choice
-read_body-returns-in-Choice t c = choice_read (rules_of c.args.coding) (lawful_of c.args.coding) c.args.nodes.now c.requires c.args.depth c.args.of c.in-Some.node.now c.in-Choice.arms c.in-Some.ensures.some c.in-Choice.is (parts_of c.args.head c.args.content.now)
+read_body-returns-in-Choice t c = λ d h. let l = least c.args.depth c.read_choice.result d h in choice_read (rules_of c.args.coding) (lawful_of c.args.coding) c.args.nodes.now c.requires d c.args.of c.in-Some.node.now c.in-Choice.arms c.in-Some.ensures.some c.in-Choice.is (parts_of c.args.head c.args.content.now)
     c.args.tape.now.items c.read_choice.new.tape.items c.read_choice.result
-    (subst (λ (z : List ℕ). ReadsValue (IsArmOf c.args.coding c.args.nodes.now c.args.depth z (parts_of c.args.head c.args.content.now)) c.args.tape.now.items c.read_choice.new.tape.items c.read_choice.result)
-    c.deref-in-Choice.ensures.value c.read_choice.ensures)
+    (subst (λ (z : List ℕ). ReadsValue (IsArmOf c.args.coding c.args.nodes.now d z (parts_of c.args.head c.args.content.now)) c.args.tape.now.items c.read_choice.new.tape.items c.read_choice.result)
+    c.deref-in-Choice.ensures.value (c.read_choice.ensures d h))
 
 pub read_body-returns-then-not-head : goal.read_body-returns-then-not-head
-read_body-returns-then-not-head t c = kind_refused (rules_of c.args.coding) c.args.nodes.now c.args.depth c.args.of (parts_of c.args.head c.args.content.now) c.in-Some.node.now (kinds.Explicit c.in-Explicit.inner) c.in-Some.ensures.some c.in-Explicit.is
+read_body-returns-then-not-head t c = λ d h. kind_refused (rules_of c.args.coding) c.args.nodes.now d c.args.of (parts_of c.args.head c.args.content.now) c.in-Some.node.now (kinds.Explicit c.in-Explicit.inner) c.in-Some.ensures.some c.in-Explicit.is
     (λ v b. let y = not-true c.args.head.constructed c.if-not-head.true in let z = b.0 in cc)
 
 pub read_body-returns-else-not-head : goal.read_body-returns-else-not-head
-read_body-returns-else-not-head t c = reads_up (rules_of c.args.coding) c.args.nodes.now c.args.depth c.args.of (parts_of c.args.head c.args.content.now) c.in-Some.node.now (kinds.Explicit c.in-Explicit.inner) c.args.tape.now.items c.read_whole.new.tape.items c.read_whole.result (grind (arith, c.if-depth-eq0.false)) c.in-Some.ensures.some (sym c.if-not-has_a_tag.ensures) c.in-Explicit.is
-    (explicit_read (rules_of c.args.coding) (lawful_of c.args.coding) (IsBody c.args.coding c.args.nodes.now (c.args.depth - 1) c.in-Explicit.inner)
+read_body-returns-else-not-head t c = λ d h. let l = least c.args.depth c.read_whole.result d h in reads_up (rules_of c.args.coding) c.args.nodes.now d c.args.of (parts_of c.args.head c.args.content.now) c.in-Some.node.now (kinds.Explicit c.in-Explicit.inner) c.args.tape.now.items c.read_whole.new.tape.items c.read_whole.result (grind (arith, c.if-depth-eq0.false, l)) c.in-Some.ensures.some (sym c.if-not-has_a_tag.ensures) c.in-Explicit.is
+    (explicit_read (rules_of c.args.coding) (lawful_of c.args.coding) (IsBody c.args.coding c.args.nodes.now (d - 1) c.in-Explicit.inner)
     c.args.head.constructed c.args.content.now c.args.tape.now.items c.read_whole.new.tape.items c.read_whole.result
-    (not-false c.args.head.constructed c.if-not-head.false) c.read_whole.ensures)
+    (not-false c.args.head.constructed c.if-not-head.false) (c.read_whole.ensures (d - 1) (within c.args.depth c.read_whole.result d (grind (arith, c.if-depth-eq0.false)) h)))
 
 pub read_body-returns-in-Boolean : goal.read_body-returns-in-Boolean
-read_body-returns-in-Boolean t c =
-    let p = parts_of c.args.head c.args.content.now in
-    reads_up (rules_of c.args.coding) c.args.nodes.now c.args.depth c.args.of p c.in-Some.node.now (kinds.Boolean) c.args.tape.now.items c.put_leaf.new.tape.items c.put_leaf.result (grind (arith, c.if-depth-eq0.false)) c.in-Some.ensures.some (sym c.if-not-has_a_tag.ensures) c.in-Boolean.is
-    (leaf_put (IsOfKind c.args.coding c.args.nodes.now (c.args.depth - 1) c.args.of (kinds.Boolean) p) c.boolean_item.result c.args.tape.now.items
-    c.put_leaf.new.tape.items c.put_leaf.result (c.boolean_item.ensures c.args.nodes.now (c.args.depth - 1) c.args.of) c.put_leaf.ensures.put c.put_leaf.ensures.refused)
+read_body-returns-in-Boolean t c = λ d h.
+    let l = least c.args.depth c.put_leaf.result d h in
+    leaf_up (rules_of c.args.coding) c.args.nodes.now d c.args.of (parts_of c.args.head c.args.content.now) c.in-Some.node.now
+    kinds.Boolean c.boolean_item.result c.args.tape.now.items c.put_leaf.new.tape.items c.put_leaf.result
+    (grind (arith, c.if-depth-eq0.false, l)) c.in-Some.ensures.some (sym c.if-not-has_a_tag.ensures) c.in-Boolean.is
+    (c.boolean_item.ensures c.args.nodes.now (d - 1) c.args.of) c.put_leaf.ensures.put c.put_leaf.ensures.refused
 
 pub read_body-returns-in-Null : goal.read_body-returns-in-Null
-read_body-returns-in-Null t c =
-    let p = parts_of c.args.head c.args.content.now in
-    reads_up (rules_of c.args.coding) c.args.nodes.now c.args.depth c.args.of p c.in-Some.node.now (kinds.Null) c.args.tape.now.items c.put_leaf-in-Null.new.tape.items c.put_leaf-in-Null.result (grind (arith, c.if-depth-eq0.false)) c.in-Some.ensures.some (sym c.if-not-has_a_tag.ensures) c.in-Null.is
-    (leaf_put (IsOfKind c.args.coding c.args.nodes.now (c.args.depth - 1) c.args.of (kinds.Null) p) c.null_item.result c.args.tape.now.items
-    c.put_leaf-in-Null.new.tape.items c.put_leaf-in-Null.result (c.null_item.ensures c.args.nodes.now (c.args.depth - 1) c.args.of) c.put_leaf-in-Null.ensures.put c.put_leaf-in-Null.ensures.refused)
+read_body-returns-in-Null t c = λ d h.
+    let l = least c.args.depth c.put_leaf-in-Null.result d h in
+    leaf_up (rules_of c.args.coding) c.args.nodes.now d c.args.of (parts_of c.args.head c.args.content.now) c.in-Some.node.now
+    kinds.Null c.null_item.result c.args.tape.now.items c.put_leaf-in-Null.new.tape.items c.put_leaf-in-Null.result
+    (grind (arith, c.if-depth-eq0.false, l)) c.in-Some.ensures.some (sym c.if-not-has_a_tag.ensures) c.in-Null.is
+    (c.null_item.ensures c.args.nodes.now (d - 1) c.args.of) c.put_leaf-in-Null.ensures.put c.put_leaf-in-Null.ensures.refused
 
 pub read_body-returns-in-Integer : goal.read_body-returns-in-Integer
-read_body-returns-in-Integer t c =
-    let p = parts_of c.args.head c.args.content.now in
-    reads_up (rules_of c.args.coding) c.args.nodes.now c.args.depth c.args.of p c.in-Some.node.now (kinds.Integer) c.args.tape.now.items c.put_leaf-in-Integer.new.tape.items c.put_leaf-in-Integer.result (grind (arith, c.if-depth-eq0.false)) c.in-Some.ensures.some (sym c.if-not-has_a_tag.ensures) c.in-Integer.is
-    (leaf_put (IsOfKind c.args.coding c.args.nodes.now (c.args.depth - 1) c.args.of (kinds.Integer) p) c.integer_item.result c.args.tape.now.items
-    c.put_leaf-in-Integer.new.tape.items c.put_leaf-in-Integer.result (c.integer_item.ensures c.args.nodes.now (c.args.depth - 1) c.args.of) c.put_leaf-in-Integer.ensures.put c.put_leaf-in-Integer.ensures.refused)
+read_body-returns-in-Integer t c = λ d h.
+    let l = least c.args.depth c.put_leaf-in-Integer.result d h in
+    leaf_up (rules_of c.args.coding) c.args.nodes.now d c.args.of (parts_of c.args.head c.args.content.now) c.in-Some.node.now
+    kinds.Integer c.integer_item.result c.args.tape.now.items c.put_leaf-in-Integer.new.tape.items c.put_leaf-in-Integer.result
+    (grind (arith, c.if-depth-eq0.false, l)) c.in-Some.ensures.some (sym c.if-not-has_a_tag.ensures) c.in-Integer.is
+    (c.integer_item.ensures c.args.nodes.now (d - 1) c.args.of) c.put_leaf-in-Integer.ensures.put c.put_leaf-in-Integer.ensures.refused
 
 pub read_body-returns-in-Enumerated : goal.read_body-returns-in-Enumerated
-read_body-returns-in-Enumerated t c =
-    let p = parts_of c.args.head c.args.content.now in
-    reads_up (rules_of c.args.coding) c.args.nodes.now c.args.depth c.args.of p c.in-Some.node.now (kinds.Enumerated c.in-Enumerated.numbers c.in-Enumerated.extensible) c.args.tape.now.items c.put_leaf-in-Enumerated.new.tape.items c.put_leaf-in-Enumerated.result (grind (arith, c.if-depth-eq0.false)) c.in-Some.ensures.some (sym c.if-not-has_a_tag.ensures) c.in-Enumerated.is
-    (leaf_put (IsOfKind c.args.coding c.args.nodes.now (c.args.depth - 1) c.args.of (kinds.Enumerated c.in-Enumerated.numbers c.in-Enumerated.extensible) p) c.enumerated_item.result c.args.tape.now.items
-    c.put_leaf-in-Enumerated.new.tape.items c.put_leaf-in-Enumerated.result (subst (λ (z : List ℤ). Judges (IsListed z c.in-Enumerated.extensible p) c.enumerated_item.result)
-    c.deref-in-Enumerated.ensures.value c.enumerated_item.ensures) c.put_leaf-in-Enumerated.ensures.put c.put_leaf-in-Enumerated.ensures.refused)
+read_body-returns-in-Enumerated t c = λ d h.
+    let l = least c.args.depth c.put_leaf-in-Enumerated.result d h in
+    leaf_up (rules_of c.args.coding) c.args.nodes.now d c.args.of (parts_of c.args.head c.args.content.now) c.in-Some.node.now
+    (kinds.Enumerated c.in-Enumerated.numbers c.in-Enumerated.extensible) c.enumerated_item.result c.args.tape.now.items c.put_leaf-in-Enumerated.new.tape.items c.put_leaf-in-Enumerated.result
+    (grind (arith, c.if-depth-eq0.false, l)) c.in-Some.ensures.some (sym c.if-not-has_a_tag.ensures) c.in-Enumerated.is
+    (subst (λ (z : List ℤ). Judges (IsListed z c.in-Enumerated.extensible (parts_of c.args.head c.args.content.now))
+    c.enumerated_item.result) c.deref-in-Enumerated.ensures.value c.enumerated_item.ensures) c.put_leaf-in-Enumerated.ensures.put c.put_leaf-in-Enumerated.ensures.refused
 
 pub read_body-returns-in-Identifier : goal.read_body-returns-in-Identifier
-read_body-returns-in-Identifier t c =
-    let p = parts_of c.args.head c.args.content.now in
-    reads_up (rules_of c.args.coding) c.args.nodes.now c.args.depth c.args.of p c.in-Some.node.now (kinds.Identifier c.in-Identifier.relative) c.args.tape.now.items c.put_leaf-in-Identifier.new.tape.items c.put_leaf-in-Identifier.result (grind (arith, c.if-depth-eq0.false)) c.in-Some.ensures.some (sym c.if-not-has_a_tag.ensures) c.in-Identifier.is
-    (leaf_put (IsOfKind c.args.coding c.args.nodes.now (c.args.depth - 1) c.args.of (kinds.Identifier c.in-Identifier.relative) p) c.identifier_item.result c.args.tape.now.items
-    c.put_leaf-in-Identifier.new.tape.items c.put_leaf-in-Identifier.result (c.identifier_item.ensures c.args.nodes.now (c.args.depth - 1) c.args.of) c.put_leaf-in-Identifier.ensures.put c.put_leaf-in-Identifier.ensures.refused)
+read_body-returns-in-Identifier t c = λ d h.
+    let l = least c.args.depth c.put_leaf-in-Identifier.result d h in
+    leaf_up (rules_of c.args.coding) c.args.nodes.now d c.args.of (parts_of c.args.head c.args.content.now) c.in-Some.node.now
+    (kinds.Identifier c.in-Identifier.relative) c.identifier_item.result c.args.tape.now.items c.put_leaf-in-Identifier.new.tape.items c.put_leaf-in-Identifier.result
+    (grind (arith, c.if-depth-eq0.false, l)) c.in-Some.ensures.some (sym c.if-not-has_a_tag.ensures) c.in-Identifier.is
+    (c.identifier_item.ensures c.args.nodes.now (d - 1) c.args.of) c.put_leaf-in-Identifier.ensures.put c.put_leaf-in-Identifier.ensures.refused
 
 pub read_body-returns-in-Octets : goal.read_body-returns-in-Octets
-read_body-returns-in-Octets t c =
+read_body-returns-in-Octets t c = λ d h. let l = least c.args.depth c.read_string.result d h in
     let p = parts_of c.args.head c.args.content.now in
-    reads_up (rules_of c.args.coding) c.args.nodes.now c.args.depth c.args.of p c.in-Some.node.now kinds.Octets c.args.tape.now.items c.read_string.new.tape.items c.read_string.result (grind (arith, c.if-depth-eq0.false)) c.in-Some.ensures.some (sym c.if-not-has_a_tag.ensures) c.in-Octets.is
-    (reads_map (IsStringOf c.args.coding sorts.Octets (c.args.depth - 1) p) (IsOfKind c.args.coding c.args.nodes.now (c.args.depth - 1) c.args.of kinds.Octets p)
-    (λ v a. (a.0, a.1, a.2)) (λ v a. (a.0, a.1, a.2, tt)) c.args.tape.now.items c.read_string.new.tape.items c.read_string.result c.read_string.ensures)
+    reads_up (rules_of c.args.coding) c.args.nodes.now d c.args.of p c.in-Some.node.now kinds.Octets c.args.tape.now.items c.read_string.new.tape.items c.read_string.result (grind (arith, c.if-depth-eq0.false, l)) c.in-Some.ensures.some (sym c.if-not-has_a_tag.ensures) c.in-Octets.is
+    (reads_map (IsStringOf c.args.coding sorts.Octets (d - 1) p) (IsOfKind c.args.coding c.args.nodes.now (d - 1) c.args.of kinds.Octets p)
+    (λ v a. (a.0, a.1, a.2)) (λ v a. (a.0, a.1, a.2, tt)) c.args.tape.now.items c.read_string.new.tape.items c.read_string.result (c.read_string.ensures (d - 1) (within c.args.depth c.read_string.result d (grind (arith, c.if-depth-eq0.false)) h)))
 
 pub read_body-returns-in-Text : goal.read_body-returns-in-Text
-read_body-returns-in-Text t c = reads_up (rules_of c.args.coding) c.args.nodes.now c.args.depth c.args.of (parts_of c.args.head c.args.content.now) c.in-Some.node.now (kinds.Text c.in-Text.kind) c.args.tape.now.items c.read_string-in-Text.new.tape.items c.read_string-in-Text.result (grind (arith, c.if-depth-eq0.false)) c.in-Some.ensures.some (sym c.if-not-has_a_tag.ensures) c.in-Text.is
-    c.read_string-in-Text.ensures
+read_body-returns-in-Text t c = λ d h. let l = least c.args.depth c.read_string-in-Text.result d h in reads_up (rules_of c.args.coding) c.args.nodes.now d c.args.of (parts_of c.args.head c.args.content.now) c.in-Some.node.now (kinds.Text c.in-Text.kind) c.args.tape.now.items c.read_string-in-Text.new.tape.items c.read_string-in-Text.result (grind (arith, c.if-depth-eq0.false, l)) c.in-Some.ensures.some (sym c.if-not-has_a_tag.ensures) c.in-Text.is
+    (c.read_string-in-Text.ensures (d - 1) (within c.args.depth c.read_string-in-Text.result d (grind (arith, c.if-depth-eq0.false)) h))
 
 pub read_body-returns-in-Time : goal.read_body-returns-in-Time
-read_body-returns-in-Time t c = reads_up (rules_of c.args.coding) c.args.nodes.now c.args.depth c.args.of (parts_of c.args.head c.args.content.now) c.in-Some.node.now (kinds.Time c.in-Time.kind) c.args.tape.now.items c.read_string-in-Time.new.tape.items c.read_string-in-Time.result (grind (arith, c.if-depth-eq0.false)) c.in-Some.ensures.some (sym c.if-not-has_a_tag.ensures) c.in-Time.is
-    c.read_string-in-Time.ensures
+read_body-returns-in-Time t c = λ d h. let l = least c.args.depth c.read_string-in-Time.result d h in reads_up (rules_of c.args.coding) c.args.nodes.now d c.args.of (parts_of c.args.head c.args.content.now) c.in-Some.node.now (kinds.Time c.in-Time.kind) c.args.tape.now.items c.read_string-in-Time.new.tape.items c.read_string-in-Time.result (grind (arith, c.if-depth-eq0.false, l)) c.in-Some.ensures.some (sym c.if-not-has_a_tag.ensures) c.in-Time.is
+    (c.read_string-in-Time.ensures (d - 1) (within c.args.depth c.read_string-in-Time.result d (grind (arith, c.if-depth-eq0.false)) h))
 
 pub read_body-returns-in-Bits : goal.read_body-returns-in-Bits
-read_body-returns-in-Bits t c = reads_up (rules_of c.args.coding) c.args.nodes.now c.args.depth c.args.of (parts_of c.args.head c.args.content.now) c.in-Some.node.now (kinds.Bits c.in-Bits.named) c.args.tape.now.items c.read_bits.new.tape.items c.read_bits.result (grind (arith, c.if-depth-eq0.false)) c.in-Some.ensures.some (sym c.if-not-has_a_tag.ensures) c.in-Bits.is
-    (c.read_bits.ensures c.args.nodes.now c.args.of)
+read_body-returns-in-Bits t c = λ d h. let l = least c.args.depth c.read_bits.result d h in reads_up (rules_of c.args.coding) c.args.nodes.now d c.args.of (parts_of c.args.head c.args.content.now) c.in-Some.node.now (kinds.Bits c.in-Bits.named) c.args.tape.now.items c.read_bits.new.tape.items c.read_bits.result (grind (arith, c.if-depth-eq0.false, l)) c.in-Some.ensures.some (sym c.if-not-has_a_tag.ensures) c.in-Bits.is
+    (c.read_bits.ensures c.args.nodes.now c.args.of (d - 1) (within c.args.depth c.read_bits.result d (grind (arith, c.if-depth-eq0.false)) h))
 
 pub read_body-read_body-requires : goal.read_body-read_body-requires
 read_body-read_body-requires t c =
@@ -143,28 +149,28 @@ read_body-read_body-requires t c =
     search rules
 
 pub read_body-returns-in-Ok-read_body : goal.read_body-returns-in-Ok-read_body
-read_body-returns-in-Ok-read_body t c = reads_up (rules_of c.args.coding) c.args.nodes.now {T = Unit {0}} c.args.depth c.args.of (parts_of c.args.head c.args.content.now) c.in-Some.node.now (kinds.Within c.in-Within.inner c.in-Within.lower c.in-Within.upper) c.args.tape.now.items c.read_body.new.tape.items c.judge_bounds.result (grind (arith, c.if-depth-eq0.false)) c.in-Some.ensures.some (sym c.if-not-has_a_tag.ensures) c.in-Within.is
-    (within_read (rules_of c.args.coding) (lawful_of c.args.coding) c.args.nodes.now c.requires {T = Unit {0}} c.args.depth c.args.of c.in-Within.inner c.in-Within.lower c.in-Within.upper (parts_of c.args.head c.args.content.now) c.args.tape.now.items c.read_body.new.tape.items c.judge_bounds.result (grind (arith, c.if-depth-eq0.false)) (bounds_order c.args.nodes.now c.args.of c.in-Within.inner c.in-Within.lower c.in-Within.upper c.in-Some.node.now c.requires c.in-Some.ensures.some c.in-Within.is)
-    (within_judged (rules_of c.args.coding) (lawful_of c.args.coding) c.args.nodes.now c.requires c.args.depth c.in-Within.inner c.in-Within.lower c.in-Within.upper (parts_of c.args.head c.args.content.now) c.args.tape.now.items
-    c.read_body.new.tape.items c.judge_bounds.result c.in-Ok-read_body.ensures
-    (c.judge_bounds.ensures (marks c.args.tape.now.items) c.in-Ok-read_body.ensures.kept
-    (subst (λ (z : List Item). marks z ≡ marks c.args.tape.now.items ++ tape_of c.in-Ok-read_body.ensures.kept) (sym c.deref-in-Ok-read_body.ensures.value) c.in-Ok-read_body.ensures.is)
+read_body-returns-in-Ok-read_body t c = λ d h. let l = least c.args.depth c.judge_bounds.result d h in reads_up (rules_of c.args.coding) c.args.nodes.now {T = Unit {0}} d c.args.of (parts_of c.args.head c.args.content.now) c.in-Some.node.now (kinds.Within c.in-Within.inner c.in-Within.lower c.in-Within.upper) c.args.tape.now.items c.read_body.new.tape.items c.judge_bounds.result (grind (arith, c.if-depth-eq0.false, l)) c.in-Some.ensures.some (sym c.if-not-has_a_tag.ensures) c.in-Within.is
+    (within_read (rules_of c.args.coding) (lawful_of c.args.coding) c.args.nodes.now c.requires {T = Unit {0}} d c.args.of c.in-Within.inner c.in-Within.lower c.in-Within.upper (parts_of c.args.head c.args.content.now) c.args.tape.now.items c.read_body.new.tape.items c.judge_bounds.result (grind (arith, c.if-depth-eq0.false, l)) (bounds_order c.args.nodes.now c.args.of c.in-Within.inner c.in-Within.lower c.in-Within.upper c.in-Some.node.now c.requires c.in-Some.ensures.some c.in-Within.is)
+    (within_judged (rules_of c.args.coding) (lawful_of c.args.coding) c.args.nodes.now c.requires d c.in-Within.inner c.in-Within.lower c.in-Within.upper (parts_of c.args.head c.args.content.now) c.args.tape.now.items
+    c.read_body.new.tape.items c.judge_bounds.result (c.in-Ok-read_body.ensures d l)
+    (c.judge_bounds.ensures (marks c.args.tape.now.items) (c.in-Ok-read_body.ensures d l).kept
+    (subst (λ (z : List Item). marks z ≡ marks c.args.tape.now.items ++ tape_of (c.in-Ok-read_body.ensures d l).kept) (sym c.deref-in-Ok-read_body.ensures.value) (c.in-Ok-read_body.ensures d l).is)
     (let m = length-map c.args.tape.now.items mark in omega (arith, c.len-place.ensures, m)))))
 
 pub read_body-returns-in-Err-read_body : goal.read_body-returns-in-Err-read_body
-read_body-returns-in-Err-read_body t c = reads_up (rules_of c.args.coding) c.args.nodes.now {T = Unit {0}} c.args.depth c.args.of (parts_of c.args.head c.args.content.now) c.in-Some.node.now (kinds.Within c.in-Within.inner c.in-Within.lower c.in-Within.upper) c.args.tape.now.items c.read_body.new.tape.items (Err c.in-Err-read_body.e) (grind (arith, c.if-depth-eq0.false)) c.in-Some.ensures.some (sym c.if-not-has_a_tag.ensures) c.in-Within.is
-    (within_read (rules_of c.args.coding) (lawful_of c.args.coding) c.args.nodes.now c.requires {T = Unit {0}} c.args.depth c.args.of c.in-Within.inner c.in-Within.lower c.in-Within.upper (parts_of c.args.head c.args.content.now) c.args.tape.now.items c.read_body.new.tape.items (Err c.in-Err-read_body.e) (grind (arith, c.if-depth-eq0.false)) (bounds_order c.args.nodes.now c.args.of c.in-Within.inner c.in-Within.lower c.in-Within.upper c.in-Some.node.now c.requires c.in-Some.ensures.some c.in-Within.is)
-    (bounds_refused (Unit {0}) (Unit {0}) (IsBody c.args.coding c.args.nodes.now c.args.depth c.in-Within.inner (parts_of c.args.head c.args.content.now)) c.in-Within.lower c.in-Within.upper c.args.tape.now.items c.read_body.new.tape.items c.read_body.new.tape.items c.in-Err-read_body.e c.in-Err-read_body.ensures))
+read_body-returns-in-Err-read_body t c = λ d h. let l = fault_least c.args.depth c.in-Err-read_body.e d h in reads_up (rules_of c.args.coding) c.args.nodes.now {T = Unit {0}} d c.args.of (parts_of c.args.head c.args.content.now) c.in-Some.node.now (kinds.Within c.in-Within.inner c.in-Within.lower c.in-Within.upper) c.args.tape.now.items c.read_body.new.tape.items (Err c.in-Err-read_body.e) (grind (arith, c.if-depth-eq0.false, l)) c.in-Some.ensures.some (sym c.if-not-has_a_tag.ensures) c.in-Within.is
+    (within_read (rules_of c.args.coding) (lawful_of c.args.coding) c.args.nodes.now c.requires {T = Unit {0}} d c.args.of c.in-Within.inner c.in-Within.lower c.in-Within.upper (parts_of c.args.head c.args.content.now) c.args.tape.now.items c.read_body.new.tape.items (Err c.in-Err-read_body.e) (grind (arith, c.if-depth-eq0.false, l)) (bounds_order c.args.nodes.now c.args.of c.in-Within.inner c.in-Within.lower c.in-Within.upper c.in-Some.node.now c.requires c.in-Some.ensures.some c.in-Within.is)
+    (bounds_refused (Unit {0}) (Unit {0}) (IsBody c.args.coding c.args.nodes.now d c.in-Within.inner (parts_of c.args.head c.args.content.now)) c.in-Within.lower c.in-Within.upper c.args.tape.now.items c.read_body.new.tape.items c.read_body.new.tape.items c.in-Err-read_body.e (c.in-Err-read_body.ensures d h)))
 
 pub read_body-returns-in-Ok : goal.read_body-returns-in-Ok
-read_body-returns-in-Ok t c = reads_up (rules_of c.args.coding) c.args.nodes.now c.args.depth c.args.of (parts_of c.args.head c.args.content.now) c.in-Some.node.now kinds.Any c.args.tape.now.items c.put_item.new.tape.items c.put_item.result (grind (arith, c.if-depth-eq0.false)) c.in-Some.ensures.some (sym c.if-not-has_a_tag.ensures) c.in-Any.is
-    (leaf_read (IsOfKind c.args.coding c.args.nodes.now (c.args.depth - 1) c.args.of kinds.Any (parts_of c.args.head c.args.content.now)) c.args.tape.now.items c.put_item.new.tape.items c.in-Ok.item c.put_item.result (c.in-Ok.ensures c.args.nodes.now c.args.of) c.put_item.ensures.ok c.put_item.ensures.err)
+read_body-returns-in-Ok t c = λ d h. let l = least c.args.depth c.put_item.result d h in reads_up (rules_of c.args.coding) c.args.nodes.now d c.args.of (parts_of c.args.head c.args.content.now) c.in-Some.node.now kinds.Any c.args.tape.now.items c.put_item.new.tape.items c.put_item.result (grind (arith, c.if-depth-eq0.false, l)) c.in-Some.ensures.some (sym c.if-not-has_a_tag.ensures) c.in-Any.is
+    (leaf_read (IsOfKind c.args.coding c.args.nodes.now (d - 1) c.args.of kinds.Any (parts_of c.args.head c.args.content.now)) c.args.tape.now.items c.put_item.new.tape.items c.in-Ok.item c.put_item.result (c.in-Ok.ensures c.args.nodes.now c.args.of (d - 1) (omega (arith, l))) c.put_item.ensures.ok c.put_item.ensures.err)
 
 pub read_body-returns-in-Err : goal.read_body-returns-in-Err
-read_body-returns-in-Err t c = reads_up (rules_of c.args.coding) c.args.nodes.now {T = Unit {0}} c.args.depth c.args.of (parts_of c.args.head c.args.content.now) c.in-Some.node.now kinds.Any c.args.tape.now.items c.args.tape.now.items (Err c.in-Err.e) (grind (arith, c.if-depth-eq0.false)) c.in-Some.ensures.some (sym c.if-not-has_a_tag.ensures) c.in-Any.is (no_leaf (Unit {0}) (IsOfKind c.args.coding c.args.nodes.now (c.args.depth - 1) c.args.of kinds.Any (parts_of c.args.head c.args.content.now)) c.args.tape.now.items c.in-Err.e (c.in-Err.ensures c.args.nodes.now c.args.of))
+read_body-returns-in-Err t c = λ d h. let l = fault_least c.args.depth c.in-Err.e d h in reads_up (rules_of c.args.coding) c.args.nodes.now {T = Unit {0}} d c.args.of (parts_of c.args.head c.args.content.now) c.in-Some.node.now kinds.Any c.args.tape.now.items c.args.tape.now.items (Err c.in-Err.e) (grind (arith, c.if-depth-eq0.false, l)) c.in-Some.ensures.some (sym c.if-not-has_a_tag.ensures) c.in-Any.is (no_leaf (Unit {0}) (IsOfKind c.args.coding c.args.nodes.now (d - 1) c.args.of kinds.Any (parts_of c.args.head c.args.content.now)) c.args.tape.now.items c.in-Err.e (c.in-Err.ensures c.args.nodes.now c.args.of (d - 1) (fault_within c.args.depth c.in-Err.e d (grind (arith, c.if-depth-eq0.false)) h)))
 
 pub read_choice-returns-in_default : goal.read_choice-returns-in_default
-read_choice-returns-in_default t c = no_arm (rules_of c.args.coding) (lawful_of c.args.coding) c.args.nodes.now c.args.depth c.args.arms.now (parts_of c.args.head c.args.content.now) c.in_default.ensures.none
+read_choice-returns-in_default t c = λ d h. no_arm (rules_of c.args.coding) (lawful_of c.args.coding) c.args.nodes.now d c.args.arms.now (parts_of c.args.head c.args.content.now) c.in_default.ensures.none
 
 pub read_choice-read_body-requires : goal.read_choice-read_body-requires
 read_choice-read_body-requires t c =
@@ -172,107 +178,107 @@ read_choice-read_body-requires t c =
     search rules
 
 pub read_choice-returns-in-Err-read_body : goal.read_choice-returns-in-Err-read_body
-read_choice-returns-in-Err-read_body t c = arm_refused (rules_of c.args.coding) (lawful_of c.args.coding) c.args.nodes.now c.args.depth c.args.arms.now (Unit {0}) (Unit {0}) (parts_of c.args.head c.args.content.now) c.in-Some.k c.in-Some.arm c.args.tape.now.items c.put_item.new.tape.items
-    c.read_body.new.tape.items c.read_body.new.tape.items c.in-Err-read_body.e c.requires.told c.in-Some.ensures.some.0 c.in-Some.ensures.some.1 c.in-Err-read_body.ensures
+read_choice-returns-in-Err-read_body t c = λ d h. arm_refused (rules_of c.args.coding) (lawful_of c.args.coding) c.args.nodes.now d c.args.arms.now (Unit {0}) (Unit {0}) (parts_of c.args.head c.args.content.now) c.in-Some.k c.in-Some.arm c.args.tape.now.items c.put_item.new.tape.items
+    c.read_body.new.tape.items c.read_body.new.tape.items c.in-Err-read_body.e c.requires.told c.in-Some.ensures.some.0 c.in-Some.ensures.some.1 (c.in-Err-read_body.ensures d h)
 
 pub read_choice-returns-in-Ok-read_body : goal.read_choice-returns-in-Ok-read_body
-read_choice-returns-in-Ok-read_body t c = arm_read (rules_of c.args.coding) (lawful_of c.args.coding) c.args.nodes.now c.args.depth c.args.arms.now (parts_of c.args.head c.args.content.now) c.in-Some.k c.in-Some.arm c.args.tape.now.items c.put_item.new.tape.items
+read_choice-returns-in-Ok-read_body t c = λ d h. arm_read (rules_of c.args.coding) (lawful_of c.args.coding) c.args.nodes.now d c.args.arms.now (parts_of c.args.head c.args.content.now) c.in-Some.k c.in-Some.arm c.args.tape.now.items c.put_item.new.tape.items
     c.read_body.new.tape.items c.put_item-in-Ok-read_body.new.tape.items c.put_item-in-Ok-read_body.result c.in-Some.ensures.some.0 c.in-Ok.ensures.ok
-    c.in-Ok-read_body.ensures c.put_item-in-Ok-read_body.ensures.ok c.put_item-in-Ok-read_body.ensures.err
+    (c.in-Ok-read_body.ensures d (least c.args.depth c.put_item-in-Ok-read_body.result d h)) c.put_item-in-Ok-read_body.ensures.ok c.put_item-in-Ok-read_body.ensures.err
 
 pub read_front-returns-in_default-clause-value : goal.read_front-returns-in_default-clause-value
-read_front-returns-in_default-clause-value t c = no_element (rules_of c.args.coding) (lawful_of c.args.coding) (IsBody c.args.coding c.args.nodes.now c.args.depth c.args.of) c.args.octets.now c.in_default.ensures.none
+read_front-returns-in_default-clause-value t c = λ d h. no_element (rules_of c.args.coding) (lawful_of c.args.coding) (IsBody c.args.coding c.args.nodes.now d c.args.of) c.args.octets.now c.in_default.ensures.none
 
 pub read_front-returns-in-Err-clause-value : goal.read_front-returns-in-Err-clause-value
-read_front-returns-in-Err-clause-value t c = front_refused (rules_of c.args.coding) (lawful_of c.args.coding) (IsBody c.args.coding c.args.nodes.now c.args.depth c.args.of) (Unit {0}) c.args.octets.now c.in-Some.rest.now (parts_of c.in-Some.head c.in-Some.content.now) c.args.tape.now.items c.read_body.new.tape.items c.read_body.new.tape.items c.in-Err.e c.in-Some.ensures.some c.in-Err.ensures
+read_front-returns-in-Err-clause-value t c = λ d h. front_refused (rules_of c.args.coding) (lawful_of c.args.coding) (IsBody c.args.coding c.args.nodes.now d c.args.of) (Unit {0}) c.args.octets.now c.in-Some.rest.now (parts_of c.in-Some.head c.in-Some.content.now) c.args.tape.now.items c.read_body.new.tape.items c.read_body.new.tape.items c.in-Err.e c.in-Some.ensures.some (c.in-Err.ensures d h)
 
 pub read_front-returns-in-Ok-clause-value : goal.read_front-returns-in-Ok-clause-value
-read_front-returns-in-Ok-clause-value t c = front_read (rules_of c.args.coding) (lawful_of c.args.coding) (IsBody c.args.coding c.args.nodes.now c.args.depth c.args.of) c.args.octets.now c.in-Some.rest.now (parts_of c.in-Some.head c.in-Some.content.now) c.args.tape.now.items c.read_body.new.tape.items c.in-Some.ensures.some c.in-Ok.ensures
+read_front-returns-in-Ok-clause-value t c = λ d h. front_read (rules_of c.args.coding) (lawful_of c.args.coding) (IsBody c.args.coding c.args.nodes.now d c.args.of) c.args.octets.now c.in-Some.rest.now (parts_of c.in-Some.head c.in-Some.content.now) c.args.tape.now.items c.read_body.new.tape.items c.in-Some.ensures.some (c.in-Ok.ensures d h)
 
 pub read_front-returns-in-Ok-clause-shorter : goal.read_front-returns-in-Ok-clause-shorter
 read_front-returns-in-Ok-clause-shorter t c = front_shorter (rules_of c.args.coding) (lawful_of c.args.coding) (IsBody c.args.coding c.args.nodes.now c.args.depth c.args.of) c.args.octets.now c.in-Some.rest.now (parts_of c.in-Some.head c.in-Some.content.now) c.in-Some.ensures.some
 
 pub read_whole-returns-then-not-is_at_end : goal.read_whole-returns-then-not-is_at_end
-read_whole-returns-then-not-is_at_end t c = λ v b. not_whole (rules_of c.args.coding) (lawful_of c.args.coding) (IsBody c.args.coding c.args.nodes.now c.args.depth c.args.of) c.args.octets.now c.in-Ok.rest.now c.args.tape.now.items c.read_front.new.tape.items
-    (λ e. let f = c.if-not-is_at_end.ensures.no e in absurd (cc)) c.in-Ok.ensures.value v b
+read_whole-returns-then-not-is_at_end t c = λ d h v b. not_whole (rules_of c.args.coding) (lawful_of c.args.coding) (IsBody c.args.coding c.args.nodes.now d c.args.of) c.args.octets.now c.in-Ok.rest.now c.args.tape.now.items c.read_front.new.tape.items
+    (λ e. let f = c.if-not-is_at_end.ensures.no e in absurd (cc)) (c.in-Ok.ensures.value d h) v b
 
 pub read_whole-returns-else-not-is_at_end : goal.read_whole-returns-else-not-is_at_end
-read_whole-returns-else-not-is_at_end t c = whole_read (rules_of c.args.coding) (lawful_of c.args.coding) (IsBody c.args.coding c.args.nodes.now c.args.depth c.args.of) c.args.octets.now c.in-Ok.rest.now c.args.tape.now.items c.read_front.new.tape.items (c.if-not-is_at_end.ensures.yes refl) c.in-Ok.ensures.value
+read_whole-returns-else-not-is_at_end t c = λ d h. whole_read (rules_of c.args.coding) (lawful_of c.args.coding) (IsBody c.args.coding c.args.nodes.now d c.args.of) c.args.octets.now c.in-Ok.rest.now c.args.tape.now.items c.read_front.new.tape.items (c.if-not-is_at_end.ensures.yes refl) (c.in-Ok.ensures.value d h)
 
 pub read_whole-returns-in-Err : goal.read_whole-returns-in-Err
-read_whole-returns-in-Err t c = whole_refused (rules_of c.args.coding) (lawful_of c.args.coding) (IsBody c.args.coding c.args.nodes.now c.args.depth c.args.of) (Unit {0}) c.args.octets.now c.args.tape.now.items c.read_front.new.tape.items c.read_front.new.tape.items c.in-Err.e c.in-Err.ensures.value
+read_whole-returns-in-Err t c = λ d h. whole_refused (rules_of c.args.coding) (lawful_of c.args.coding) (IsBody c.args.coding c.args.nodes.now d c.args.of) (Unit {0}) c.args.octets.now c.args.tape.now.items c.read_front.new.tape.items c.read_front.new.tape.items c.in-Err.e (c.in-Err.ensures.value d h)
 
 pub read_row-returns-in-Ok-read_fields : goal.read_row-returns-in-Ok-read_fields
-read_row-returns-in-Ok-read_fields t c = row_read c.args.constructed (AreFieldsOf c.args.coding c.args.nodes.now c.args.depth c.args.unknown c.args.fields.now c.args.octets.now) c.args.tape.now.items c.open_row.new.tape.items c.read_fields.new.tape.items c.close_row.new.tape.items c.in-Ok.place c.close_row.result
-    c.if-not-constructed.false c.in-Ok.ensures.place c.in-Ok.ensures.pushed c.in-Ok-read_fields.ensures c.close_row.ensures.closed c.close_row.ensures.err
+read_row-returns-in-Ok-read_fields t c = λ d h. row_read c.args.constructed (AreFieldsOf c.args.coding c.args.nodes.now d c.args.unknown c.args.fields.now c.args.octets.now) c.args.tape.now.items c.open_row.new.tape.items c.read_fields.new.tape.items c.close_row.new.tape.items c.in-Ok.place c.close_row.result
+    c.if-not-constructed.false c.in-Ok.ensures.place c.in-Ok.ensures.pushed (c.in-Ok-read_fields.ensures d (least c.args.depth c.close_row.result d h)) c.close_row.ensures.closed c.close_row.ensures.err
 
 pub read_row-returns-in-Err-read_fields : goal.read_row-returns-in-Err-read_fields
-read_row-returns-in-Err-read_fields t c = row_refused (Unit {0}) (Unit {0}) c.args.constructed (AreFieldsOf c.args.coding c.args.nodes.now c.args.depth c.args.unknown c.args.fields.now c.args.octets.now) c.args.tape.now.items c.open_row.new.tape.items c.read_fields.new.tape.items c.read_fields.new.tape.items c.in-Err-read_fields.e c.in-Err-read_fields.ensures
+read_row-returns-in-Err-read_fields t c = λ d h. row_refused (Unit {0}) (Unit {0}) c.args.constructed (AreFieldsOf c.args.coding c.args.nodes.now d c.args.unknown c.args.fields.now c.args.octets.now) c.args.tape.now.items c.open_row.new.tape.items c.read_fields.new.tape.items c.read_fields.new.tape.items c.in-Err-read_fields.e (c.in-Err-read_fields.ensures d h)
 
 pub read_items-loop-rest-init : goal.read_items-loop-rest-init
-read_items-loop-rest-init t c = nothing_yet (AreItemsOf c.args.coding c.args.nodes.now c.args.depth c.args.of c.args.octets.now) c.args.tape.now.items
+read_items-loop-rest-init t c = λ d l. nothing_yet (AreItemsOf c.args.coding c.args.nodes.now d c.args.of c.args.octets.now) c.args.tape.now.items
 
 pub read_items-returns-in-Err : goal.read_items-returns-in-Err
-read_items-returns-in-Err t c = items_refused (rules_of c.args.coding) (lawful_of c.args.coding) (IsBody c.args.coding c.args.nodes.now c.args.depth c.args.of) (Unit {0}) (AreItemsOf c.args.coding c.args.nodes.now c.args.depth c.args.of c.args.octets.now) c.loop-rest.rest.now c.args.tape.now.items c.loop-rest.tape.items c.read_front.new.tape.items c.in-Err.e
-    (λ e. let f = c.loop-rest-test.ensures.no e in absurd (cc)) c.loop-rest.invariant c.in-Err.ensures.value
+read_items-returns-in-Err t c = λ d h. items_refused (rules_of c.args.coding) (lawful_of c.args.coding) (IsBody c.args.coding c.args.nodes.now d c.args.of) (Unit {0}) (AreItemsOf c.args.coding c.args.nodes.now d c.args.of c.args.octets.now) c.loop-rest.rest.now c.args.tape.now.items c.loop-rest.tape.items c.read_front.new.tape.items c.in-Err.e
+    (λ e. let f = c.loop-rest-test.ensures.no e in absurd (cc)) (c.loop-rest.invariant d (fault_least c.args.depth c.in-Err.e d h)) (c.in-Err.ensures.value d h)
 
 pub read_items-loop-rest-preserved : goal.read_items-loop-rest-preserved
-read_items-loop-rest-preserved t c = item_more (rules_of c.args.coding) (lawful_of c.args.coding) (IsBody c.args.coding c.args.nodes.now c.args.depth c.args.of) (AreItemsOf c.args.coding c.args.nodes.now c.args.depth c.args.of c.args.octets.now) c.loop-rest.rest.now c.in-Ok.tail.now c.args.tape.now.items c.loop-rest.tape.items c.read_front.new.tape.items
-    c.loop-rest.invariant c.in-Ok.ensures.value
+read_items-loop-rest-preserved t c = λ d l. item_more (rules_of c.args.coding) (lawful_of c.args.coding) (IsBody c.args.coding c.args.nodes.now d c.args.of) (AreItemsOf c.args.coding c.args.nodes.now d c.args.of c.args.octets.now) c.loop-rest.rest.now c.in-Ok.tail.now c.args.tape.now.items c.loop-rest.tape.items c.read_front.new.tape.items
+    (c.loop-rest.invariant d l) (c.in-Ok.ensures.value d l)
 
 pub read_items-returns : goal.read_items-returns
-read_items-returns t c = items_done (rules_of c.args.coding) (lawful_of c.args.coding) (IsBody c.args.coding c.args.nodes.now c.args.depth c.args.of) (AreItemsOf c.args.coding c.args.nodes.now c.args.depth c.args.of c.args.octets.now) c.loop-rest.rest.now c.args.tape.now.items c.loop-rest.tape.items (c.loop-rest-test.ensures.yes refl) c.loop-rest.invariant
+read_items-returns t c = λ d h. items_done (rules_of c.args.coding) (lawful_of c.args.coding) (IsBody c.args.coding c.args.nodes.now d c.args.of) (AreItemsOf c.args.coding c.args.nodes.now d c.args.of c.args.octets.now) c.loop-rest.rest.now c.args.tape.now.items c.loop-rest.tape.items (c.loop-rest-test.ensures.yes refl) (c.loop-rest.invariant d h)
 
 pub read_fields-loop-field-init : goal.read_fields-loop-field-init
-read_fields-loop-field-init t c = record { told = c.requires.told; so_far = nothing_yet (AreFieldsOf c.args.coding c.args.nodes.now c.args.depth c.args.unknown c.args.fields.now c.args.octets.now) c.args.tape.now.items }
+read_fields-loop-field-init t c = record { told = c.requires.told; so_far = λ d l. nothing_yet (AreFieldsOf c.args.coding c.args.nodes.now d c.args.unknown c.args.fields.now c.args.octets.now) c.args.tape.now.items }
 
 pub read_fields-returns-in-Err : goal.read_fields-returns-in-Err
-read_fields-returns-in-Err t c = fields_refused (rules_of c.args.coding) (lawful_of c.args.coding) c.args.nodes.now (IsBody c.args.coding c.args.nodes.now c.args.depth) (tag_of_body (rules_of c.args.coding) (lawful_of c.args.coding) c.args.nodes.now c.args.depth) (Unit {0}) c.args.unknown (AreFieldsOf c.args.coding c.args.nodes.now c.args.depth c.args.unknown c.args.fields.now c.args.octets.now) c.loop-field.left.now c.in-Some.field.now c.in-Some.others.now c.loop-field.rest.now
-    c.args.tape.now.items c.loop-field.tape.items c.read_field.new.tape.items c.in-Err.e c.in-Some.ensures.cases.0 c.loop-field.invariant.told c.loop-field.invariant.so_far c.in-Err.ensures
+read_fields-returns-in-Err t c = λ d h. fields_refused (rules_of c.args.coding) (lawful_of c.args.coding) c.args.nodes.now (IsBody c.args.coding c.args.nodes.now d) (tag_of_body (rules_of c.args.coding) (lawful_of c.args.coding) c.args.nodes.now d) (Unit {0}) c.args.unknown (AreFieldsOf c.args.coding c.args.nodes.now d c.args.unknown c.args.fields.now c.args.octets.now) c.loop-field.left.now c.in-Some.field.now c.in-Some.others.now c.loop-field.rest.now
+    c.args.tape.now.items c.loop-field.tape.items c.read_field.new.tape.items c.in-Err.e c.in-Some.ensures.cases.0 c.loop-field.invariant.told (c.loop-field.invariant.so_far d (fault_least c.args.depth c.in-Err.e d h)) (c.in-Err.ensures d h)
 
 pub read_fields-loop-field-preserved : goal.read_fields-loop-field-preserved
 read_fields-loop-field-preserved t c = record {
   told = second_holds (not (may_be_left_out c.in-Some.field.now.presence) || field_told c.args.nodes.now c.args.unknown (node_at c.args.nodes.now c.in-Some.field.now.of) c.in-Some.others.now)
       (fields_told c.args.nodes.now c.args.unknown c.in-Some.others.now)
       (subst (λ (z : List Field). fields_told c.args.nodes.now c.args.unknown z ≡ true) c.in-Some.ensures.cases.0 c.loop-field.invariant.told);
-  so_far = fields_further (rules_of c.args.coding) (lawful_of c.args.coding) c.args.nodes.now (IsBody c.args.coding c.args.nodes.now c.args.depth) (tag_of_body (rules_of c.args.coding) (lawful_of c.args.coding) c.args.nodes.now c.args.depth) (written_of c.args.coding) c.args.unknown (AreFieldsOf c.args.coding c.args.nodes.now c.args.depth c.args.unknown c.args.fields.now c.args.octets.now) c.loop-field.left.now c.in-Some.field.now c.in-Some.others.now
+  so_far = λ d l. fields_further (rules_of c.args.coding) (lawful_of c.args.coding) c.args.nodes.now (IsBody c.args.coding c.args.nodes.now d) (tag_of_body (rules_of c.args.coding) (lawful_of c.args.coding) c.args.nodes.now d) (written_of c.args.coding) c.args.unknown (AreFieldsOf c.args.coding c.args.nodes.now d c.args.unknown c.args.fields.now c.args.octets.now) c.loop-field.left.now c.in-Some.field.now c.in-Some.others.now
       c.loop-field.rest.now c.in-Ok.tail.now c.args.tape.now.items c.loop-field.tape.items c.read_field.new.tape.items c.in-Some.ensures.cases.0 c.loop-field.invariant.told
-      c.loop-field.invariant.so_far c.in-Ok.ensures;
+      (c.loop-field.invariant.so_far d l) (c.in-Ok.ensures d l);
 }
 
 pub read_fields-returns-in-Some-unknown : goal.read_fields-returns-in-Some-unknown
-read_fields-returns-in-Some-unknown t c = fields_ended (rules_of c.args.coding) (lawful_of c.args.coding) c.args.nodes.now (IsBody c.args.coding c.args.nodes.now c.args.depth) (tag_of_body (rules_of c.args.coding) (lawful_of c.args.coding) c.args.nodes.now c.args.depth) c.args.unknown (AreFieldsOf c.args.coding c.args.nodes.now c.args.depth c.args.unknown c.args.fields.now c.args.octets.now) c.loop-field.left.now c.loop-field.rest.now c.args.tape.now.items c.loop-field.tape.items c.read_items.new.tape.items c.read_items.result (nil_from_length c.loop-field.left.now c.in_default.ensures.cases) c.loop-field.invariant.so_far
-    (subst (λ (z : Option ℕ). ReadsRow (AreUnknown (rules_of c.args.coding) (IsBody c.args.coding c.args.nodes.now c.args.depth) z c.loop-field.rest.now) c.loop-field.tape.items c.read_items.new.tape.items c.read_items.result)
-    (sym c.in-Some-unknown.is) c.read_items.ensures)
+read_fields-returns-in-Some-unknown t c = λ d h. fields_ended (rules_of c.args.coding) (lawful_of c.args.coding) c.args.nodes.now (IsBody c.args.coding c.args.nodes.now d) (tag_of_body (rules_of c.args.coding) (lawful_of c.args.coding) c.args.nodes.now d) c.args.unknown (AreFieldsOf c.args.coding c.args.nodes.now d c.args.unknown c.args.fields.now c.args.octets.now) c.loop-field.left.now c.loop-field.rest.now c.args.tape.now.items c.loop-field.tape.items c.read_items.new.tape.items c.read_items.result (nil_from_length c.loop-field.left.now c.in_default.ensures.cases) (c.loop-field.invariant.so_far d (least c.args.depth c.read_items.result d h))
+    (subst (λ (z : Option ℕ). ReadsRow (AreUnknown (rules_of c.args.coding) (IsBody c.args.coding c.args.nodes.now d) z c.loop-field.rest.now) c.loop-field.tape.items c.read_items.new.tape.items c.read_items.result)
+    (sym c.in-Some-unknown.is) (c.read_items.ensures d h))
 
 pub read_fields-returns-then-not-is_at_end : goal.read_fields-returns-then-not-is_at_end
-read_fields-returns-then-not-is_at_end t c = fields_over (rules_of c.args.coding) (lawful_of c.args.coding) c.args.nodes.now (IsBody c.args.coding c.args.nodes.now c.args.depth) (tag_of_body (rules_of c.args.coding) (lawful_of c.args.coding) c.args.nodes.now c.args.depth) c.args.unknown (AreFieldsOf c.args.coding c.args.nodes.now c.args.depth c.args.unknown c.args.fields.now c.args.octets.now) c.loop-field.left.now c.loop-field.rest.now c.args.tape.now.items c.loop-field.tape.items (nil_from_length c.loop-field.left.now c.in_default.ensures.cases) c.loop-field.invariant.so_far c.in-None.is (λ e. let f = c.if-not-is_at_end.ensures.no e in absurd (cc))
+read_fields-returns-then-not-is_at_end t c = λ d h. fields_over (rules_of c.args.coding) (lawful_of c.args.coding) c.args.nodes.now (IsBody c.args.coding c.args.nodes.now d) (tag_of_body (rules_of c.args.coding) (lawful_of c.args.coding) c.args.nodes.now d) c.args.unknown (AreFieldsOf c.args.coding c.args.nodes.now d c.args.unknown c.args.fields.now c.args.octets.now) c.loop-field.left.now c.loop-field.rest.now c.args.tape.now.items c.loop-field.tape.items (nil_from_length c.loop-field.left.now c.in_default.ensures.cases) (c.loop-field.invariant.so_far d h) c.in-None.is (λ e. let f = c.if-not-is_at_end.ensures.no e in absurd (cc))
 
 pub read_fields-returns-else-not-is_at_end : goal.read_fields-returns-else-not-is_at_end
-read_fields-returns-else-not-is_at_end t c = fields_done (rules_of c.args.coding) (lawful_of c.args.coding) c.args.nodes.now (IsBody c.args.coding c.args.nodes.now c.args.depth) (tag_of_body (rules_of c.args.coding) (lawful_of c.args.coding) c.args.nodes.now c.args.depth) c.args.unknown (AreFieldsOf c.args.coding c.args.nodes.now c.args.depth c.args.unknown c.args.fields.now c.args.octets.now) c.loop-field.left.now c.loop-field.rest.now c.args.tape.now.items c.loop-field.tape.items (nil_from_length c.loop-field.left.now c.in_default.ensures.cases) c.loop-field.invariant.so_far c.in-None.is (c.if-not-is_at_end.ensures.yes refl)
+read_fields-returns-else-not-is_at_end t c = λ d h. fields_done (rules_of c.args.coding) (lawful_of c.args.coding) c.args.nodes.now (IsBody c.args.coding c.args.nodes.now d) (tag_of_body (rules_of c.args.coding) (lawful_of c.args.coding) c.args.nodes.now d) c.args.unknown (AreFieldsOf c.args.coding c.args.nodes.now d c.args.unknown c.args.fields.now c.args.octets.now) c.loop-field.left.now c.loop-field.rest.now c.args.tape.now.items c.loop-field.tape.items (nil_from_length c.loop-field.left.now c.in_default.ensures.cases) (c.loop-field.invariant.so_far d h) c.in-None.is (c.if-not-is_at_end.ensures.yes refl)
 
 pub read_field-returns-in-Err : goal.read_field-returns-in-Err
-read_field-returns-in-Err t c = field_refused (rules_of c.args.coding) (lawful_of c.args.coding) c.args.nodes.now (IsBody c.args.coding c.args.nodes.now c.args.depth) (tag_of_body (rules_of c.args.coding) (lawful_of c.args.coding) c.args.nodes.now c.args.depth) (Unit {0}) c.args.field.now.presence c.args.field.now.of c.args.octets.now c.in-Some.rest.now (parts_of c.in-Some.head c.in-Some.content.now) c.args.tape.now.items c.read_body.new.tape.items c.read_body.new.tape.items c.in-Err.e
-    c.in-Some.ensures.some c.in-Some.ensures.tagged c.in-Err.ensures
+read_field-returns-in-Err t c = λ d h. field_refused (rules_of c.args.coding) (lawful_of c.args.coding) c.args.nodes.now (IsBody c.args.coding c.args.nodes.now d) (tag_of_body (rules_of c.args.coding) (lawful_of c.args.coding) c.args.nodes.now d) (Unit {0}) c.args.field.now.presence c.args.field.now.of c.args.octets.now c.in-Some.rest.now (parts_of c.in-Some.head c.in-Some.content.now) c.args.tape.now.items c.read_body.new.tape.items c.read_body.new.tape.items c.in-Err.e
+    c.in-Some.ensures.some c.in-Some.ensures.tagged (c.in-Err.ensures d h)
 
 pub read_field-returns-in-Ok : goal.read_field-returns-in-Ok
-read_field-returns-in-Ok t c = field_there (rules_of c.args.coding) (lawful_of c.args.coding) c.args.nodes.now (IsBody c.args.coding c.args.nodes.now c.args.depth) (tag_of_body (rules_of c.args.coding) (lawful_of c.args.coding) c.args.nodes.now c.args.depth) c.args.field.now.presence c.args.field.now.of c.args.octets.now c.in-Some.rest.now (parts_of c.in-Some.head c.in-Some.content.now) c.args.tape.now.items c.read_body.new.tape.items c.in-Some.ensures.some c.in-Ok.ensures
+read_field-returns-in-Ok t c = λ d h. field_there (rules_of c.args.coding) (lawful_of c.args.coding) c.args.nodes.now (IsBody c.args.coding c.args.nodes.now d) (tag_of_body (rules_of c.args.coding) (lawful_of c.args.coding) c.args.nodes.now d) c.args.field.now.presence c.args.field.now.of c.args.octets.now c.in-Some.rest.now (parts_of c.in-Some.head c.in-Some.content.now) c.args.tape.now.items c.read_body.new.tape.items c.in-Some.ensures.some (c.in-Ok.ensures d h)
 
 pub read_field-returns-in-Required : goal.read_field-returns-in-Required
-read_field-returns-in-Required t c = record { none = (no_tag (rules_of c.args.coding) (lawful_of c.args.coding) c.args.nodes.now (IsBody c.args.coding c.args.nodes.now c.args.depth) (tag_of_body (rules_of c.args.coding) (lawful_of c.args.coding) c.args.nodes.now c.args.depth) c.args.field.now.of c.args.octets.now c.in_default.ensures.none); why = inr (subst (MayNot (rules_of c.args.coding) ((IsBody c.args.coding c.args.nodes.now c.args.depth) c.args.field.now.of)) (sym c.in-Required.is) tt) }
+read_field-returns-in-Required t c = λ d h. record { none = (no_tag (rules_of c.args.coding) (lawful_of c.args.coding) c.args.nodes.now (IsBody c.args.coding c.args.nodes.now d) (tag_of_body (rules_of c.args.coding) (lawful_of c.args.coding) c.args.nodes.now d) c.args.field.now.of c.args.octets.now c.in_default.ensures.none); why = inr (subst (MayNot (rules_of c.args.coding) ((IsBody c.args.coding c.args.nodes.now d) c.args.field.now.of)) (sym c.in-Required.is) tt) }
 
 pub read_field-returns-in-Ok-put_item : goal.read_field-returns-in-Ok-put_item
-read_field-returns-in-Ok-put_item t c = inr (record { stays = refl; left = subst (λ (z : Presence). Leaves (rules_of c.args.coding) ((IsBody c.args.coding c.args.nodes.now c.args.depth) c.args.field.now.of) z c.args.tape.now.items c.put_item.new.tape.items) (sym c.in-Optional.is) c.in-Ok-put_item.ensures.ok; none = (no_tag (rules_of c.args.coding) (lawful_of c.args.coding) c.args.nodes.now (IsBody c.args.coding c.args.nodes.now c.args.depth) (tag_of_body (rules_of c.args.coding) (lawful_of c.args.coding) c.args.nodes.now c.args.depth) c.args.field.now.of c.args.octets.now c.in_default.ensures.none) })
+read_field-returns-in-Ok-put_item t c = λ d h. inr (record { stays = refl; left = subst (λ (z : Presence). Leaves (rules_of c.args.coding) ((IsBody c.args.coding c.args.nodes.now d) c.args.field.now.of) z c.args.tape.now.items c.put_item.new.tape.items) (sym c.in-Optional.is) c.in-Ok-put_item.ensures.ok; none = (no_tag (rules_of c.args.coding) (lawful_of c.args.coding) c.args.nodes.now (IsBody c.args.coding c.args.nodes.now d) (tag_of_body (rules_of c.args.coding) (lawful_of c.args.coding) c.args.nodes.now d) c.args.field.now.of c.args.octets.now c.in_default.ensures.none) })
 
 pub read_field-returns-in-Ok-read_whole : goal.read_field-returns-in-Ok-read_whole
-read_field-returns-in-Ok-read_whole t c = inr (record {
+read_field-returns-in-Ok-read_whole t c = λ d h. inr (record {
   stays = refl;
-  left = subst (λ (z : Presence). Leaves (rules_of c.args.coding) ((IsBody c.args.coding c.args.nodes.now c.args.depth) c.args.field.now.of) z c.args.tape.now.items c.read_whole.new.tape.items) (sym c.in-Default.is)
-      (subst (λ (z : List ℕ). PutsValue (Says (rules_of c.args.coding) ((IsBody c.args.coding c.args.nodes.now c.args.depth) c.args.field.now.of) z) c.args.tape.now.items c.read_whole.new.tape.items) c.deref.ensures.value c.in-Ok-read_whole.ensures);
-  none = (no_tag (rules_of c.args.coding) (lawful_of c.args.coding) c.args.nodes.now (IsBody c.args.coding c.args.nodes.now c.args.depth) (tag_of_body (rules_of c.args.coding) (lawful_of c.args.coding) c.args.nodes.now c.args.depth) c.args.field.now.of c.args.octets.now c.in_default.ensures.none);
+  left = subst (λ (z : Presence). Leaves (rules_of c.args.coding) ((IsBody c.args.coding c.args.nodes.now d) c.args.field.now.of) z c.args.tape.now.items c.read_whole.new.tape.items) (sym c.in-Default.is)
+      (subst (λ (z : List ℕ). PutsValue (Says (rules_of c.args.coding) ((IsBody c.args.coding c.args.nodes.now d) c.args.field.now.of) z) c.args.tape.now.items c.read_whole.new.tape.items) c.deref.ensures.value (c.in-Ok-read_whole.ensures d h));
+  none = (no_tag (rules_of c.args.coding) (lawful_of c.args.coding) c.args.nodes.now (IsBody c.args.coding c.args.nodes.now d) (tag_of_body (rules_of c.args.coding) (lawful_of c.args.coding) c.args.nodes.now d) c.args.field.now.of c.args.octets.now c.in_default.ensures.none);
 })
 
 pub read_field-returns-in-Err-read_whole : goal.read_field-returns-in-Err-read_whole
-read_field-returns-in-Err-read_whole t c = field_default (rules_of c.args.coding) (lawful_of c.args.coding) c.args.nodes.now (IsBody c.args.coding c.args.nodes.now c.args.depth) (tag_of_body (rules_of c.args.coding) (lawful_of c.args.coding) c.args.nodes.now c.args.depth) (Unit {0}) c.args.field.now.presence c.in-Default.default c.args.field.now.of c.args.octets.now c.args.tape.now.items c.read_whole.new.tape.items c.read_whole.new.tape.items c.in-Err-read_whole.e
+read_field-returns-in-Err-read_whole t c = λ d h. field_default (rules_of c.args.coding) (lawful_of c.args.coding) c.args.nodes.now (IsBody c.args.coding c.args.nodes.now d) (tag_of_body (rules_of c.args.coding) (lawful_of c.args.coding) c.args.nodes.now d) (Unit {0}) c.args.field.now.presence c.in-Default.default c.args.field.now.of c.args.octets.now c.args.tape.now.items c.read_whole.new.tape.items c.read_whole.new.tape.items c.in-Err-read_whole.e
     c.in-Default.is c.in_default.ensures.none
-    (subst (λ (z : List ℕ). ReadsValue {T = Unit {0}} (Says (rules_of c.args.coding) ((IsBody c.args.coding c.args.nodes.now c.args.depth) c.args.field.now.of) z) c.args.tape.now.items c.read_whole.new.tape.items (Err c.in-Err-read_whole.e)) c.deref.ensures.value c.in-Err-read_whole.ensures)
+    (subst (λ (z : List ℕ). ReadsValue {T = Unit {0}} (Says (rules_of c.args.coding) ((IsBody c.args.coding c.args.nodes.now d) c.args.field.now.of) z) c.args.tape.now.items c.read_whole.new.tape.items (Err c.in-Err-read_whole.e)) c.deref.ensures.value (c.in-Err-read_whole.ensures d h))

@@ -1,4 +1,4 @@
-use Rattle.std.proofs.Common.{suc, ◌≡◌, ◌+◌, ◌*◌, length, min, true}
+use Rattle.std.proofs.Common.{ℕ, suc, ◌≡◌, ◌≤◌, ◌+◌, ◌*◌, length, min, true}
 use Rattle.asn1_schema.specs.Sound.{fields_told}
 use Rattle.asn1_schema.specs.Reading.{AreFieldsOf, AreItemsOf}
 use Rattle.asn1_schema.proofs.TakenRows.{SoFar}
@@ -29,8 +29,8 @@ abbrev pub decreases-read_row : goal.decreases-read_row
 decreases-read_row l = 6 * (l.depth * suc (length l.nodes.now) + length l.nodes.now) + 6
 
 abbrev pub invariant-read_items-loop-rest : goal.invariant-read_items-loop-rest
-invariant-read_items-loop-rest l = SoFar (AreItemsOf l.coding l.nodes l.depth l.of l.rest)
-    (AreItemsOf l.coding l.nodes l.depth l.of l.octets) l.initial.tape.items l.tape.items
+invariant-read_items-loop-rest l = (d : ℕ) → l.depth ≤ d → SoFar (AreItemsOf l.coding l.nodes d l.of l.rest)
+    (AreItemsOf l.coding l.nodes d l.of l.octets) l.initial.tape.items l.tape.items
 
 abbrev pub decreases-read_items-loop-rest : goal.decreases-read_items-loop-rest
 decreases-read_items-loop-rest l = length l.rest
@@ -38,8 +38,8 @@ decreases-read_items-loop-rest l = length l.rest
 abbrev pub invariant-read_fields-loop-field : goal.invariant-read_fields-loop-field
 invariant-read_fields-loop-field l = record {
   told : fields_told l.nodes l.unknown l.left ≡ true;
-  so_far : SoFar (AreFieldsOf l.coding l.nodes l.depth l.unknown l.left l.rest)
-      (AreFieldsOf l.coding l.nodes l.depth l.unknown l.fields l.octets) l.initial.tape.items l.tape.items;
+  so_far : (d : ℕ) → l.depth ≤ d → SoFar (AreFieldsOf l.coding l.nodes d l.unknown l.left l.rest)
+      (AreFieldsOf l.coding l.nodes d l.unknown l.fields l.octets) l.initial.tape.items l.tape.items;
 }
 
 abbrev pub decreases-read_fields-loop-field : goal.decreases-read_fields-loop-field

@@ -1,4 +1,4 @@
-use Rattle.std.proofs.Common.{◌≡◌, ◌+◌, ◌-◌, ◌^◌, ap, length, min, drop, List, ℕ, arith, ◌≤◌}
+use Rattle.std.proofs.Common.{◌≡◌, ap, drop, List, arith}
 use Rattle.std.proofs.lemmas.List.{drop_all}
 use Rattle.asn1_schema.specs.declared.tape.Item.{Item}
 use Rattle.asn1_schema.specs.Tape.{marks}

@@ -1,4 +1,4 @@
-use Rattle.std.proofs.Common.{◌<◌, sym, subst, List, ℕ, take, arith}
+use Rattle.std.proofs.Common.{◌<◌, sym, subst, take, arith}
 use Rattle.asn1_schema.specs.Grammar.{IsText}
 use Rattle.asn1_schema.specs.Joined.{said}
 use Rattle.asn1_schema.proofs.TextFronts.{front_none, front_less, front_more}

@@ -10,7 +10,7 @@ returns-in_ok-name-in-None-clause-ok t c =
     is_under c.tagged.result old old c.tagged.new.self.nodes.items c.in-Some.node.now c.args.tag c.args.of
     c.in_ok-kind-in-None.kind known
     (unbounded_retagged c.args.of c.args.of (length old - 1) c.in-Some.node.now.kind c.in_ok-kind-in-None.kind
-    c.in-None.ensures.none c.in_ok-kind-in-None.ensures) c.tagged.ensures.ok
+    c.in-None.ensures.none c.in_ok-kind-in-None.ensures) c.tagged.ensures
 
 pub returns-in_ok-place-in-Some-bounded-clause-ok :
     goal.returns-in_ok-place-in-Some-bounded-clause-ok
@@ -23,4 +23,4 @@ returns-in_ok-place-in-Some-bounded-clause-ok t c =
     (bounds_retagged c.args.of (length mid - 1) c.in-Some.node.now.kind c.in-Some-bounded.lower c.in-Some-bounded.upper
     c.in-Some-bounded.inner c.in_ok-place-in-Some-bounded.place c.in-Some-bounded.ensures.some
     (last_place old mid c.in_ok-place-in-Some-bounded.place c.args.tag c.in-Some-bounded.inner
-    c.in_ok-place-in-Some-bounded.ensures.ok)) c.tagged-in-Some-bounded.ensures.ok
+    c.in_ok-place-in-Some-bounded.ensures.ok)) c.tagged-in-Some-bounded.ensures

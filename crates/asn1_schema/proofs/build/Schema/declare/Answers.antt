@@ -1,12 +1,12 @@
 use Rattle.std.proofs.Common.{◌≡◌, ℕ, ap, refl, length, None, rules}
 use Rattle.asn1_schema.specs.declared.schema.Kind.TheVariants as kinds
 use Rattle.asn1_schema.specs.declared.schema.Kind.{Kind}
-use Rattle.asn1_schema.proofs.Builds.{is_like}
+use Rattle.asn1_schema.proofs.Builds.{put_like}
 use Rattle.asn1_schema.proofs.build.Schema.declare.Goals as goal
 
-pub returns-clause-ok : goal.returns-clause-ok
-returns-clause-ok c =
+pub returns : goal.returns
+returns c =
     let own : c.len-own.result ≡ length c.args.self.now.nodes.items = search rules in
-    is_like c.tagged.result c.args.self.now.nodes.items c.tagged.new.self.nodes.items c.args.tag c.args.tag _
+    put_like c.tagged.result c.args.self.now.nodes.items c.tagged.new.self.nodes.items c.args.tag c.args.tag _
     (λ (kind : Kind). kind ≡ kinds.Within (length c.args.self.now.nodes.items) None None) refl
-    (ap (λ (place : ℕ). kinds.Within place None None) own) c.tagged.ensures.ok
+    (ap (λ (place : ℕ). kinds.Within place None None) own) c.tagged.ensures

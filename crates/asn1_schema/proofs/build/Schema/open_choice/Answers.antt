@@ -1,16 +1,16 @@
 use Rattle.std.proofs.Common.{◌≡◌, ◌++◌, ◌∷◌, [], map}
 use Rattle.asn1_schema.specs.Build.{IsOpenChoice, universal}
-use Rattle.asn1_schema.proofs.Builds.{is_added, is_open}
+use Rattle.asn1_schema.proofs.Builds.{put_added, put_open}
 use Rattle.asn1_schema.proofs.build.Schema.open_choice.Goals as goal
 
-pub returns-clause-ok : goal.returns-clause-ok
-returns-clause-ok c =
+pub returns : goal.returns
+returns c =
     let arms = map (λ a. a.of) c.args.arms.now in
     let mid = c.unknown.new.self.nodes.items in
     let unknown = c.in_ok-unknown.unknown in
     let ends : c.in_ok-ends.ends.items ≡ universal 0 ∷ [] = cc (c.in_ok-ends.ensures.items, c.universal.ensures) in
     let places : c.push.new.self.items ≡ arms ++ unknown ∷ [] = cc (c.in_ok-push.ensures.items, c.in_ok-places.ensures) in
-    is_open c.put.result c.args.self.now.nodes.items mid c.put.new.self.nodes.items unknown (IsOpenChoice arms)
-    c.in_ok-unknown.ensures.ok
-    (is_added c.put.result mid c.put.new.self.nodes.items _ (IsOpenChoice arms unknown) c.put.ensures.place
-    c.put.ensures.nodes (ends, places))
+    put_open c.put.result c.args.self.now.nodes.items mid c.put.new.self.nodes.items unknown c.in_ok-tags.tags arms
+    (IsOpenChoice arms) c.in_ok-tags.ensures c.in_ok-unknown.ensures
+    (put_added c.put.result mid c.put.new.self.nodes.items _ (IsOpenChoice arms unknown) c.put.ensures.place
+    c.put.ensures.nodes c.put.ensures.err (ends, places))

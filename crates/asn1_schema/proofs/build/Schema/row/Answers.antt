@@ -1,9 +1,9 @@
 use Rattle.std.proofs.Common.{refl}
 use Rattle.asn1_schema.specs.Build.{IsRow, universal}
-use Rattle.asn1_schema.proofs.Builds.{is_like}
+use Rattle.asn1_schema.proofs.Builds.{put_like}
 use Rattle.asn1_schema.proofs.build.Schema.row.Goals as goal
 
-pub returns-clause-ok : goal.returns-clause-ok
-returns-clause-ok c =
-    is_like c.tagged.result c.args.self.now.nodes.items c.tagged.new.self.nodes.items c.universal.result (universal 16) _
-    (IsRow c.args.parts.now c.args.unknown) c.universal.ensures (c.in_ok-fields.ensures, refl) c.tagged.ensures.ok
+pub returns : goal.returns
+returns c =
+    put_like c.tagged.result c.args.self.now.nodes.items c.tagged.new.self.nodes.items c.universal.result (universal 16) _
+    (IsRow c.args.parts.now c.args.unknown) c.universal.ensures (c.in_ok-fields.ensures, refl) c.tagged.ensures

@@ -2,7 +2,7 @@ use Rattle.std.proofs.Common.{◌≡◌, List, [], drop, subst, sym, arith, appe
 use Rattle.std.proofs.lemmas.List.{drop_all}
 use Rattle.asn1_schema.specs.declared.schema.Field.{Field}
 use Rattle.asn1_schema.specs.Build.{AreSameFields}
-use Rattle.asn1_schema.proofs.build.copied_fields.Goals as goal
+use Rattle.asn1_schema.proofs.copies.copied_fields.Goals as goal
 
 pub returns : goal.returns
 returns c =
