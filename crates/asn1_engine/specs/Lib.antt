@@ -11,3 +11,5 @@ pub mod Texts
 pub mod Trees
 pub mod Values
 pub mod Words
+pub mod Verdicts
+pub mod Wording
