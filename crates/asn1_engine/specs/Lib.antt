@@ -5,6 +5,7 @@ pub mod Visible
 pub mod Heads
 pub mod Inner
 pub mod Lines
+pub mod Messages
 pub mod Numbers
 pub mod Objects
 pub mod Texts
