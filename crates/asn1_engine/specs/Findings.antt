@@ -25,12 +25,12 @@ BreaksOff octets = (lines : List Line) × (at : ℕ) × (fault : Fault) × Row f
 -- the one or the other
 abbrev pub TellsElements : List ℕ → Bool → Type 0
 TellsElements octets true = AreElements octets
-TellsElements octets false = BreaksOff octets
+TellsElements octets false = BreaksOff octets × (AreElements octets → ⊥)
 
 -- the same of what a command found
 abbrev pub FindsElements : List ℕ → Finding → Type 0
 FindsElements octets Holds = AreElements octets
-FindsElements octets Refused = BreaksOff octets
+FindsElements octets Refused = BreaksOff octets × (AreElements octets → ⊥)
 
 -- What a command found from an offset on: of octets at the front of those there; or that none are there.
 abbrev pub FindsAt : List ℕ → ℕ → Finding → Type 0

@@ -5,11 +5,10 @@ use Rattle.x690.specs.Identifiers.{Identifier}
 use Rattle.x690.specs.Lengths.{LengthForm}
 use Rattle.x690.specs.Rules.{ber_rule}
 use Rattle.x690.specs.Elements.{IsHeader}
-use Rattle.x690.specs.Faults.{Fault, HeaderFault}
 use Rattle.asn1_headers.specs.declared.class.Class.TheVariants.{Universal}
 use Rattle.asn1_walk.specs.declared.line.Line.{Line}
 use Rattle.asn1_engine.specs.declared.trees.Options.{Options}
-use Rattle.asn1_engine.specs.Findings.{AreElements, BreaksOff}
+use Rattle.asn1_engine.specs.Findings.{AreElements}
 use Rattle.asn1_engine.specs.Heads.{is_mostly_constructed}
 
 -- The octets of a string: the contents octets of an OCTET STRING, or those of a BIT STRING without unused bits behind
@@ -34,32 +33,23 @@ BeginsWithIdentifier octets id =
 abbrev pub BeginsAsUsual : List ℕ → Type 0
 BeginsAsUsual octets = (id : Identifier) × BeginsWithIdentifier octets id × (is_usual id ≡ true)
 
--- or no header begins them, or an unusual one
-abbrev pub BeginsOtherwise : List ℕ → Type 0
-BeginsOtherwise octets = ((fault : Fault) × HeaderFault ber_rule octets fault) ⊎
-    ((id : Identifier) × BeginsWithIdentifier octets id × (is_usual id ≡ false))
-
--- the one or the other
+-- the answer says whether the octets begin as usual
 abbrev pub TellsUsual : List ℕ → Bool → Type 0
 TellsUsual octets true = BeginsAsUsual octets
-TellsUsual octets false = BeginsOtherwise octets
+TellsUsual octets false = BeginsAsUsual octets → ⊥
 
 -- an element at least, the first as usual, and no more than elements
 abbrev pub HoldsElements : List ℕ → Type 0
 HoldsElements octets = BeginsAsUsual octets × AreElements octets
 
--- another beginning, or elements as far as to an octet that begins none
-abbrev pub HoldsOther : List ℕ → Type 0
-HoldsOther octets = BeginsOtherwise octets ⊎ BreaksOff octets
-
--- the one or the other
+-- the answer says whether the octets hold elements
 abbrev pub TellsHeld : List ℕ → Bool → Type 0
 TellsHeld octets true = HoldsElements octets
-TellsHeld octets false = HoldsOther octets
+TellsHeld octets false = HoldsElements octets → ⊥
 
--- an element that is no string, or whose octets are no elements
+-- the element is no string, or its octets do not hold elements
 abbrev pub HoldsNone : Line → Type 0
-HoldsNone line = (count : ℕ) (octets : List ℕ) → IsHeld line count octets → HoldsOther octets
+HoldsNone line = (count : ℕ) (octets : List ℕ) → IsHeld line count octets → HoldsElements octets → ⊥
 
 -- why an element is shown by its line alone: no more strings are entered, or it holds no elements
 abbrev pub IsNotEntered : Options → (strings : ℕ) → Line → Type 0

@@ -1,5 +1,6 @@
 -- What is shown of octets at the place where an element departs.
-use Rattle.std.specs.Prelude.{◌≡◌, ℕ, List, ◌++◌, ◌⊎◌, take, drop}
+use Rattle.std.specs.Prelude.{◌≡◌, ℕ, Bool, List, [], ◌∷◌, ◌++◌, ◌⊎◌, take, length, codes, flat_map, nat_lt, if◌then◌else◌}
+use Rattle.hex.specs.Hex.{encode_lower}
 use Rattle.x690.specs.Elements.{Parts, IsDerElement}
 use Rattle.x690.specs.Faults.{Fault, DerElementFault}
 
@@ -9,6 +10,20 @@ IsFront octets word =
     ((rest : List ℕ) × (parts : Parts) × (octets ≡ word ++ rest) × IsDerElement word parts) ⊎
     ((fault : Fault) × DerElementFault octets fault × (word ≡ octets))
 
--- the first octets of what stands at the offset
-abbrev pub Stands : ℕ → List ℕ → ℕ → List ℕ → Type 0
-Stands most octets offset shown = (word : List ℕ) × IsFront (drop offset octets) word × (shown ≡ take most word)
+-- octets in hexadecimal, with a space between
+abbrev pub more_octets_text : List ℕ → List ℕ
+more_octets_text octets = flat_map (λ octet. codes " " ++ encode_lower (octet ∷ [])) octets
+
+abbrev pub spaced_text : List ℕ → List ℕ
+spaced_text [] = []
+spaced_text (octet ∷ octets) = encode_lower (octet ∷ []) ++ more_octets_text octets
+
+-- a mark where there are more octets
+abbrev pub mark_text : Bool → List ℕ
+mark_text is_cut = if is_cut then codes " .." else []
+
+-- 24 octets at most, and the mark
+abbrev pub standing_text : List ℕ → List ℕ
+standing_text [] = codes "nothing"
+standing_text (octet ∷ octets) =
+    spaced_text (take 24 (octet ∷ octets)) ++ mark_text (nat_lt 24 (length (octet ∷ octets)))

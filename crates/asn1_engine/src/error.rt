@@ -1,6 +1,7 @@
 //! How a command ends.
-ghost use Rattle.std.specs.Prelude.{◌≡◌};
+ghost use Rattle.std.specs.Prelude.{◌≡◌, Some};
 ghost use Rattle.asn1_engine.specs.Findings.{both};
+ghost use Rattle.asn1_engine.specs.Messages.{run_error_text};
 ghost use Rattle.asn1_engine.specs.declared.error.RunError.TheVariants.{OutOfMemory};
 
 use std::alloc::{AllocError, AllocFailed};
@@ -37,6 +38,8 @@ pub enum RunError {
 }
 
 impl fmt::Display for RunError {
+    ghost output = { λ error. Some (run_error_text error) };
+
     fn fmt<W: fmt::Write>(&self, f: &mut fmt::Formatter<W>) -> fmt::Result {
         match self {
             RunError::Output => write!(f, "output failed"),

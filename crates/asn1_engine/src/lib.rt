@@ -17,6 +17,7 @@ pub mod texts;
 pub mod trees;
 pub mod values;
 pub mod verdicts;
+mod wording;
 pub mod words;
 
 pub use error::{Finding, RunError};

@@ -1,6 +1,7 @@
 //! Blocks of PEM: base64 between a line of BEGIN and one of END, with any text around (RFC 7468).
-ghost use Rattle.std.specs.Prelude.{◌≡◌, true, IfOk};
-ghost use Rattle.asn1_engine.specs.Findings.{BreaksOff};
+ghost use Rattle.std.specs.Prelude.{◌≡◌, Some, true, IfOk};
+ghost use Rattle.asn1_engine.specs.Findings.{AreElements, BreaksOff};
+ghost use Rattle.asn1_engine.specs.Messages.{pem_error_text};
 
 use crate::elements::are_elements;
 use base64::DecodeAllocError;
@@ -33,6 +34,8 @@ pub enum PemError {
 }
 
 impl fmt::Display for PemError {
+    ghost output = { λ error. Some (pem_error_text error) };
+
     fn fmt<W: fmt::Write>(&self, f: &mut fmt::Formatter<W>) -> fmt::Result {
         match self {
             PemError::NoEnd(line) => write!(f, "line {line}: the block has no line of END"),
@@ -79,7 +82,7 @@ fn begin_label(line: &[u8]) -> Option<&str> {
 
 /// Whether the octets are taken for PEM: a line is one of BEGIN, and they are no elements as they stand.
 pub fn is_pem(alloc: Global, octets: &[u8]) -> Result<bool, AllocError>
-    ensures { IfOk result (λ it. it ≡ true → BreaksOff octets.now) }
+    ensures { IfOk result (λ it. it ≡ true → BreaksOff octets.now × (AreElements octets.now → ⊥)) }
 {
     if !has_begin(octets) {
         return Ok(false);

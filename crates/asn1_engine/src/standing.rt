@@ -1,9 +1,10 @@
 //! What stands where an element departs.
-ghost use Rattle.std.specs.Prelude.{◌≡◌, take, drop};
-ghost use Rattle.asn1_engine.specs.Standing.{IsFront, Stands};
+ghost use Rattle.std.specs.Prelude.{◌≡◌, ◌++◌, take, drop, OnOk};
+ghost use Rattle.asn1_engine.specs.Standing.{IsFront, mark_text, more_octets_text, spaced_text, standing_text};
 
+use crate::words::{push_hexadecimal, push_str};
 use asn1_headers::der::element_by_der;
-use std::fmt;
+use std::alloc::AllocError;
 
 /// As many octets are shown.
 const MOST_SHOWN: usize = 24;
@@ -33,52 +34,67 @@ fn front(octets: &[u8]) -> &[u8]
     }
 }
 
-/// The octets that are shown of what stands at an offset.
-#[derive(Debug, Clone, Copy)]
-pub struct Standing<'a> {
-    octets: &'a [u8],
-    /// Whether that has more octets.
-    is_cut: bool,
+/// What stands at the offset: an element, or all octets behind where none is whole.
+pub fn word_at(octets: &[u8], offset: usize) -> &[u8]
+    ensures { IsFront (drop offset octets.now) result.now }
+{
+    front(behind(octets, offset))
+}
+
+/// Appends octets in hexadecimal, each behind a space.
+fn push_more(text: &mut Vec<u8>, octets: &[u8]) -> Result<(), AllocError>
+    ensures { OnOk result (text.new.items ≡ text.old.items ++ more_octets_text octets.now) }
+{
+    for octet in octets {
+        push_str(text, " ")?;
+        push_hexadecimal(text, &[*octet])?;
+    }
+    Ok(())
+}
+
+/// Appends octets in hexadecimal, with a space between.
+fn push_spaced(text: &mut Vec<u8>, octets: &[u8]) -> Result<(), AllocError>
+    ensures { OnOk result (text.new.items ≡ text.old.items ++ spaced_text octets.now) }
+{
+    match octets {
+        [] => Ok(()),
+        [first, others @ ..] => {
+            push_hexadecimal(text, &[*first])?;
+            push_more(text, others)
+        }
+    }
 }
 
 /// The first octets of these.
 #[tactic(auto, using(std::proofs::lemmas::List::take_all))]
-fn cut(octets: &[u8]) -> Standing<'_>
-    ensures { result.octets.now ≡ take 24 octets.now }
+fn shown_front(word: &[u8]) -> &[u8]
+    ensures { result.now ≡ take 24 word.now }
 {
-    if octets.len() <= MOST_SHOWN {
-        return Standing {
-            octets,
-            is_cut: false,
-        };
+    if word.len() <= MOST_SHOWN {
+        return word;
     }
-    let (shown, _rest) = octets.split_at(MOST_SHOWN);
-    Standing {
-        octets: shown,
-        is_cut: true,
-    }
+    let (shown, _rest) = word.split_at(MOST_SHOWN);
+    shown
 }
 
-impl<'a> Standing<'a> {
-    /// What stands at the offset: an element, or all octets behind where none is whole.
-    pub fn at(octets: &'a [u8], offset: usize) -> Standing<'a>
-        ensures { Stands 24 octets.entry.now offset result.octets.now }
-    {
-        let rest = behind(octets, offset);
-        let word = front(rest);
-        cut(word)
+/// Appends that there are more octets.
+fn push_mark(text: &mut Vec<u8>, is_cut: bool) -> Result<(), AllocError>
+    ensures { OnOk result (text.new.items ≡ text.old.items ++ mark_text is_cut) }
+{
+    if is_cut {
+        return push_str(text, " ..");
     }
+    Ok(())
 }
 
-impl fmt::Display for Standing<'_> {
-    fn fmt<W: fmt::Write>(&self, f: &mut fmt::Formatter<W>) -> fmt::Result {
-        if self.octets.is_empty() {
-            return write!(f, "nothing");
-        }
-        for (place, octet) in self.octets.iter().enumerate() {
-            let space = if place == 0 { "" } else { " " };
-            write!(f, "{space}{octet:02x}")?;
-        }
-        write!(f, "{}", if self.is_cut { " .." } else { "" })
+/// Appends the first octets of these, and a mark where there are more.
+pub fn push_standing(text: &mut Vec<u8>, word: &[u8]) -> Result<(), AllocError>
+    ensures { OnOk result (text.new.items ≡ text.old.items ++ standing_text word.now) }
+{
+    if word.is_empty() {
+        return push_str(text, "nothing");
     }
+    push_spaced(text, shown_front(word))?;
+    push_mark(text, word.len() > MOST_SHOWN)?;
+    Ok(())
 }

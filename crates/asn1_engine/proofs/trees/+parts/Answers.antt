@@ -10,6 +10,7 @@ use Rattle.asn1_engine.specs.Trees.{refusal_text, IsEnd, inner_offset, inner_dep
 use Rattle.asn1_engine.specs.Inner.{IsHeld, HoldsElements, IsNotEntered}
 use Rattle.asn1_engine.specs.declared.trees.Part.{Part}
 use Rattle.asn1_headers.specs.Header.Reading.{ber_refusal}
+use Rattle.asn1_engine.proofs.OneRow.{ends_or_breaks}
 use Rattle.asn1_engine.proofs.Told.{nothing_told, told_twice}
 use Rattle.asn1_engine.proofs.trees.+parts.Goals as goal
 
@@ -81,7 +82,10 @@ dump_part-returns-in-Refused-clause-finds g n c =
     let at = c.loop-walk.walk.offset in
     let m = subst (λ (s : Step). Moves s c.loop-walk.walk c.step.new.self) c.in-Refused.is c.in_ok-found.ensures.moves in
     let all = c.loop-walk.invariant.2 [] (refused at m.0) [] m.2
-    (no_lines c.args.options.now c.args.strings c.args.part.offset c.args.part.depth) in (all.0, at, m.0, all.1)
+    (no_lines c.args.options.now c.args.strings c.args.part.offset c.args.part.depth) in (
+      (all.0, at, m.0, all.1),
+      λ elements. ends_or_breaks c.args.part.octets.now elements.0 all.0 elements.1 at [] m.0 elements.2 all.1,
+    )
 
 pub dump_part-returns-in-Refused-clause-prints : goal.dump_part-returns-in-Refused-clause-prints
 dump_part-returns-in-Refused-clause-prints g n c =

@@ -1,5 +1,0 @@
-use Rattle.asn1_walk.specs.Walks.{steps_left}
-use Rattle.asn1_engine.proofs.verdicts.check_all.Given as goal
-
-abbrev pub decreases-loop-walk : goal.decreases-loop-walk
-decreases-loop-walk g l = steps_left l.walk
