@@ -234,7 +234,7 @@ fn same_signs<'t, 'a>(left: &'t [Item<'a>], right: &'t [Item<'a>]) -> bool
 
 /// Whether two tapes are of one value. How strings by BER are cut does not count.
 pub fn same_value(left: &[Item<'_>], right: &[Item<'_>]) -> bool
-    ensures same { (k l : Kept) → marks left.now ≡ tape_of k → marks right.now ≡ tape_of l →
+    ensures { (k l : Kept) → marks left.now ≡ tape_of k → marks right.now ≡ tape_of l →
         IsTrue result ↔ (value_of k ≡ value_of l) }
 {
     same_signs(left, right)
