@@ -10,7 +10,6 @@ use Rattle.asn1_schema.specs.Values.{Value, Values, leaf, row, chosen, none, abs
 use Rattle.asn1_schema.specs.Tape.{Sort, of_octets, of_text, of_time, string}
 use Rattle.asn1_schema.specs.Tape.{Kept, KeptRow, kept_leaf, kept_string, kept_bits, kept_row, kept_chosen, kept_none, kept_absent, kept_more}
 use Rattle.asn1_schema.specs.Tape.{Mark, mark, marks, leaf_mark, end_mark, arm_end_mark, pieces_mark, value_of, values_of, tape_of, tapes_of}
-use Rattle.asn1_schema.specs.Joined.{all_octets}
 use Rattle.asn1_schema.proofs.StringOctets.{octets_of_pieces}
 use Rattle.asn1_schema.specs.Same.{all_bits_of, joined_leaf, Sign, bracket, said, signs_from, signs_of, signs_of_row}
 

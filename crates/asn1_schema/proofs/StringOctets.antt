@@ -1,5 +1,5 @@
 -- The octets of a string, in one piece and in several.
-use Rattle.std.proofs.Common.{◌≡◌, ◌∙◌, ap, sym, subst, refl, ℕ, List, [], ◌∷◌, ◌++◌, append_assoc, append-nil, map}
+use Rattle.std.proofs.Common.{◌≡◌, ◌∙◌, ap, sym, refl, ℕ, List, [], ◌∷◌, ◌++◌, append_assoc, append-nil, map}
 use Rattle.asn1_schema.specs.Values.{leaf, joined}
 use Rattle.asn1_schema.specs.Tape.{Sort, of_octets, of_text, of_time, string, Kept, kept_leaf, kept_string, kept_bits, kept_row, kept_chosen, Mark, leaf_mark, pieces_end_mark, value_of, tape_of}
 use Rattle.asn1_schema.specs.Joined.{octets_of, all_octets}
