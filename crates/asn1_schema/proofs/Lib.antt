@@ -36,3 +36,5 @@ pub mod ZerosTaken
 pub mod TextFronts
 pub mod TrimmedPieces
 pub mod StringOctets
+pub mod Signs
+pub mod BitsLeft

@@ -1,5 +1,5 @@
 -- The octets of a string, in one piece and in several.
-use Rattle.std.proofs.Common.{◌≡◌, ◌∙◌, ap, sym, subst, refl, ℕ, List, [], ◌∷◌, ◌++◌, append_assoc, append-nil, map}
+use Rattle.std.proofs.Common.{◌≡◌, ◌∙◌, ap, sym, refl, ℕ, List, [], ◌∷◌, ◌++◌, append_assoc, append-nil, map}
 use Rattle.asn1_schema.specs.Values.{leaf, joined}
 use Rattle.asn1_schema.specs.Tape.{Sort, of_octets, of_text, of_time, string, Kept, kept_leaf, kept_string, kept_bits, kept_row, kept_chosen, Mark, leaf_mark, pieces_end_mark, value_of, tape_of}
 use Rattle.asn1_schema.specs.Joined.{octets_of, all_octets}
@@ -12,12 +12,12 @@ octets_of_string (of_time kind) o = refl
 same_octets : (s t : Sort) (o p : List ℕ) → string s o ≡ string t p → o ≡ p
 same_octets s t o p e = sym (octets_of_string s o) ∙ (ap (λ l. octets_of (leaf_mark l)) e ∙ octets_of_string t p)
 
-pub all_append : (ms ns : List Mark) → all_octets (ms ++ ns) ≡ all_octets ms ++ all_octets ns
+all_append : (ms ns : List Mark) → all_octets (ms ++ ns) ≡ all_octets ms ++ all_octets ns
 all_append [] ns = refl
 all_append (m ∷ ms) ns = ap (λ (z : List ℕ). octets_of m ++ z) (all_append ms ns)
     ∙ sym (append_assoc (octets_of m) (all_octets ms) (all_octets ns))
 
-octets_of_pieces : (s : Sort) (os : List (List ℕ)) → all_octets (map (λ y. leaf_mark (string s y)) os) ≡ joined os
+pub octets_of_pieces : (s : Sort) (os : List (List ℕ)) → all_octets (map (λ y. leaf_mark (string s y)) os) ≡ joined os
 octets_of_pieces s [] = refl
 octets_of_pieces s (o ∷ os) = ap (λ (z : List ℕ). z ++ all_octets (map (λ y. leaf_mark (string s y)) os)) (octets_of_string s o)
     ∙ ap (λ (z : List ℕ). o ++ z) (octets_of_pieces s os)

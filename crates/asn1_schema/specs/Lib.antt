@@ -8,6 +8,7 @@ pub mod Names
 pub mod Pieces
 pub mod Reading
 pub mod Rules
+pub mod Same
 pub mod Sizes
 pub mod Sound
 pub mod Tape

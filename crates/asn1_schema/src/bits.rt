@@ -47,7 +47,7 @@ fn may_be_unused(coding: Coding, unused: u8, octets: &[u8]) -> bool
 
 /// Whether the bit of an octet is set behind which so many others stand.
 #[cycle(bit)]
-fn is_bit_set(octet: u8, place: u8) -> bool
+pub(crate) fn is_bit_set(octet: u8, place: u8) -> bool
     ensures { result ≡ bit_at place octet }
 {
     if place == 0 {

@@ -2,8 +2,10 @@
 //! by the rules of X.690.
 #![tactic(auto)]
 
+mod alike;
 mod any;
 mod bits;
+mod bitwise;
 mod bounds;
 pub mod build;
 pub mod coding;
@@ -28,6 +30,7 @@ mod pieces;
 mod reading;
 pub mod refusal;
 mod rows;
+pub mod same;
 pub mod schema;
 mod sizes;
 pub mod sound;

@@ -1,6 +1,5 @@
-use Rattle.std.proofs.Common.{◌≡◌, ◌∙◌, ap, sym, ℕ, length, min, arith}
+use Rattle.std.proofs.Common.{◌∙◌, ap, arith}
 use Rattle.asn1_schema.specs.Tape.{marks}
-use Rattle.asn1_schema.specs.Cursor.{marks_of_first}
 use Rattle.asn1_schema.proofs.Cursors.{value_cut, absent_cut, none_taken}
 use Rattle.asn1_schema.proofs.cursor.split_value.Goals as goal
 
