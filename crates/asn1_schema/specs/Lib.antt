@@ -14,3 +14,5 @@ pub mod Tape
 pub mod Values
 pub mod Joined
 pub mod Moments
+pub mod Writing
+pub mod Encoding

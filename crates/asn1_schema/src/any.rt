@@ -14,7 +14,7 @@ use crate::tape::Item;
 
 /// Whether each element within has a strict header, to a depth (X.690 10.1).
 #[cycle(inside)]
-fn is_strict_inside(depth: usize, head: Head, content: &[u8]) -> bool
+pub(crate) fn is_strict_inside(depth: usize, head: Head, content: &[u8]) -> bool
     ensures yes { IsTrue result → IsStrictInside depth (parts_of head content.now) }
     ensures no { IsStrictInside depth (parts_of head content.now) → IsTrue result }
 {
