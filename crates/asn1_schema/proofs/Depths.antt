@@ -1,5 +1,5 @@
 -- Answers to a depth, and the depths at which they hold.
-use Rattle.std.proofs.Common.{◌≡◌, ◌≢◌, sym, subst, ℕ, ◌-◌, ◌≤◌, arith}
+use Rattle.std.proofs.Common.{◌≡◌, ◌≢◌, refl, sym, subst, ℕ, ◌-◌, ◌≤◌, arith}
 use Rattle.std.specs.Prelude.{Result, Ok, Err}
 use Rattle.asn1_schema.specs.declared.fault.Fault.{Fault}
 use Rattle.asn1_schema.specs.declared.fault.Fault.TheVariants as faults
@@ -9,6 +9,11 @@ pub unless : (e : Fault) (P Q : Type 0) → (P → Q) → UnlessMemory e P → U
 unless faults.Memory P Q f a = tt
 unless faults.Refused P Q f a = f a
 unless faults.TooDeep P Q f a = f a
+
+pub told : (e : Fault) → (e ≡ faults.Memory → ⊥) → (P : Type 0) → UnlessMemory e P → P
+told faults.Memory other P a = absurd (other refl)
+told faults.Refused other P a = a
+told faults.TooDeep other P a = a
 
 pub where_memory : (e : Fault) (P : Type 0) → e ≡ faults.Memory → UnlessMemory e P
 where_memory e P is = subst (λ (z : Fault). UnlessMemory z P) (sym is) tt

@@ -38,3 +38,17 @@ pub mod TrimmedPieces
 pub mod StringOctets
 pub mod Signs
 pub mod BitsLeft
+pub mod MadeElements
+pub mod LastMarks
+pub mod WrittenLeaves
+pub mod CutTapes
+pub mod WrittenStrings
+pub mod WrittenElements
+pub mod WrittenRows
+pub mod WrittenItems
+pub mod WrittenBounds
+pub mod WrittenChoices
+pub mod WrittenAny
+pub mod DigitsJoined
+pub mod WrittenBits
+pub mod WrittenTapes

@@ -16,3 +16,5 @@ pub mod Values
 pub mod Joined
 pub mod Moments
 pub mod Owned
+pub mod Writing
+pub mod Encoding

@@ -1,5 +1,6 @@
 //! Elements of any type.
-ghost use Rattle.std.specs.Prelude.{ℕ, List};
+ghost use Rattle.std.specs.Prelude.{ℕ, List, ◌≢◌, Err, IsTrue};
+ghost use Rattle.asn1_schema.specs.declared.fault.Fault.TheVariants as faults;
 ghost use Rattle.x690.specs.Elements.{IsDerElement};
 ghost use Rattle.x690.specs.Joined.{AreJoinedWords};
 ghost use Rattle.asn1_schema.specs.declared.schema.Node.{Node};
@@ -15,8 +16,9 @@ use crate::tape::Item;
 /// Tells whether each element within has a strict header, to a depth (X.690 10.1).
 #[cycle(inside)]
 fn judge_inside(depth: usize, head: Head, content: &[u8]) -> Result<(), Fault>
-    ensures { (d : ℕ) → HoldsAt depth result d →
+    ensures judges { (d : ℕ) → HoldsAt depth result d →
         Admits (IsStrictInside d (parts_of head content.now)) result }
+    ensures no_memory { result ≢ Err faults.Memory }
 {
     if !head.constructed {
         return Ok(());
@@ -30,9 +32,10 @@ fn judge_inside(depth: usize, head: Head, content: &[u8]) -> Result<(), Fault>
 /// Tells whether the octets are such elements.
 #[cycle(inside)]
 fn judge_elements(depth: usize, octets: &[u8]) -> Result<(), Fault>
-    ensures { (d : ℕ) → HoldsAt depth result d →
+    ensures judges { (d : ℕ) → HoldsAt depth result d →
         Admits (AreJoinedWords (λ word q. IsDerElement word q × IsStrictInside d q) octets.now)
         result }
+    ensures no_memory { result ≢ Err faults.Memory }
 {
     let mut rest = octets;
     while !is_at_end(rest) {
@@ -45,6 +48,17 @@ fn judge_elements(depth: usize, octets: &[u8]) -> Result<(), Fault>
         }
     }
     Ok(())
+}
+
+/// Whether each element within has a strict header, to this depth.
+pub(crate) fn is_strict_inside(depth: usize, head: Head, content: &[u8]) -> bool
+    ensures yes { IsTrue result → IsStrictInside depth (parts_of head content.now) }
+    ensures no { IsStrictInside depth (parts_of head content.now) → IsTrue result }
+{
+    match judge_inside(depth, head, content) {
+        Ok(()) => true,
+        Err(_) => false,
+    }
 }
 
 /// An element of any type.

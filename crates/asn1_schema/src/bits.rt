@@ -57,7 +57,7 @@ pub(crate) fn is_bit_set(octet: u8, place: u8) -> bool
 }
 
 /// Whether the last bit is set, or there is none (X.690 11.2.2).
-fn ends_in_one(unused: u8, octets: &[u8]) -> bool
+pub(crate) fn ends_in_one(unused: u8, octets: &[u8]) -> bool
     requires few { unused ≤ 7 }
     ensures { IsTrue result ↔
         (trimmed (used_bits unused octets.now) ≡ used_bits unused octets.now) }

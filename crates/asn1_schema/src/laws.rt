@@ -5,6 +5,8 @@ ghost use Rattle.std.specs.declared.vec.Vec.{Vec};
 ghost use Rattle.std.specs.declared.alloc.Global.{Global};
 ghost use Rattle.asn1_schema.specs.declared.schema.Node.{Node};
 ghost use Rattle.asn1_schema.specs.declared.schema.Kind.TheVariants as kinds;
+ghost use Rattle.asn1_schema.specs.declared.tape.Item.{Item};
+ghost use Rattle.asn1_schema.specs.Encoding.{Encodes, IsReadAs};
 ghost use Rattle.asn1_schema.specs.Grammar.{Word};
 ghost use Rattle.asn1_schema.specs.Values.{Value, chosen};
 ghost use Rattle.asn1_schema.specs.Tape.{Kept, Mark, tape_of};
@@ -57,6 +59,21 @@ pub fn strict_words_last()
 pub fn words_by_ber_last()
     ensures { (table : List Node) (max d e t : ℕ) → d ≤ e → (o : List ℕ) (v : Value)
         → Word (ber max) table d t o v → Word (ber max) table e t o v }
+{}
+
+/// What [`encode_der`](crate::encode::encode_der) wrote of a tape, before any rest, is read by DER as the value of the
+/// tape, and as no other.
+pub fn encodings_are_read_by_der()
+    ensures { (table : List Node) → is_sound table ≡ true → (depth t : ℕ) (tape : List Item)
+        (old new : List ℕ) → Encodes (Word strict table depth t) tape old new
+        → IsReadAs (Word der table depth t) tape new old }
+{}
+
+/// The same by BER.
+pub fn encodings_are_read_by_ber()
+    ensures { (table : List Node) → is_sound table ≡ true → (max depth t : ℕ) (tape : List Item)
+        (old new : List ℕ) → Encodes (Word strict table depth t) tape old new
+        → IsReadAs (Word (ber (suc max)) table depth t) tape new old }
 {}
 
 /// An element of an arm is one of the choice.

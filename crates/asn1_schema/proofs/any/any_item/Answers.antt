@@ -12,14 +12,14 @@ returns-in-Ok c = λ nodes of d h. (
   (
     refl,
     subst (λ (z : Coding). (rules_of z).Inside d (parts_of c.args.head c.args.content.now)) (sym c.in-Der.is)
-        (c.in-Ok.ensures d h),
+        (c.in-Ok.ensures.judges d h),
   ),
 )
 
 pub returns-in-Err : goal.returns-in-Err
 returns-in-Err c = λ nodes of d h. unless c.in-Err.e _ _ (λ n v a. n
     (subst (λ (z : Coding). (rules_of z).Inside d (parts_of c.args.head c.args.content.now)) c.in-Der.is a.1))
-    (c.in-Err.ensures d h)
+    (c.in-Err.ensures.judges d h)
 
 pub returns-in-Ber : goal.returns-in-Ber
 returns-in-Ber c = λ nodes of d h. (

@@ -1,0 +1,25 @@
+-- What the encoder answers.
+use Rattle.std.specs.Prelude.{ℕ, List, ◌++◌, ◌≡◌}
+use Rattle.asn1_headers.specs.Answers.{Front}
+use Rattle.asn1_schema.specs.declared.tape.Item.{Item}
+use Rattle.asn1_schema.specs.Values.{Value}
+use Rattle.asn1_schema.specs.Tape.{Kept, marks, value_of, tape_of}
+
+-- The tape is that of a value, and a word of it was put in front of the octets.
+pub record Encodes (G : List ℕ → Value → Type 0) (tape : List Item) (old new : List ℕ) : Type 0 where
+  pub kept : Kept
+  pub word : List ℕ
+  pub holds : G word (value_of kept)
+  pub is : marks tape ≡ tape_of kept
+  pub put : new ≡ word ++ old
+
+-- the tape is that of no value that has a word
+abbrev pub IsOfNoWord : (List ℕ → Value → Type 0) → List Item → Type 0
+IsOfNoWord G tape = (word : List ℕ) (kept : Kept) → G word (value_of kept) → marks tape ≡ tape_of kept → ⊥
+
+-- The octets are read as the value of the tape, before this rest, and as no other.
+pub record IsReadAs (G : List ℕ → Value → Type 0) (tape : List Item) (octets rest : List ℕ) : Type 0 where
+  pub kept : Kept
+  pub is : marks tape ≡ tape_of kept
+  pub front : Front G octets (value_of kept) rest
+  pub only : (v : Value) (others : List ℕ) → Front G octets v others → (v ≡ value_of kept) × (others ≡ rest)
