@@ -266,15 +266,16 @@ fn first_len(alloc: Global, octets: &[u8]) -> Result<usize, AllocError>
     ensures { IfOk result (λ len. len ≤ length octets.now) }
 {
     let mut walk = Walk::new(alloc, octets);
-    let mut begun = false;
+    let mut open: usize = 0;
     loop {
         match walk.step()? {
-            Step::Line(line) if begun && line.depth == 0 => {
-                return Ok(line.offset.min(octets.len()));
-            }
-            Step::Line(_) => begun = true,
-            Step::Closed => {}
+            Step::Line(line) if line.constructed => open = open.saturating_add(1),
+            Step::Line(_) => {}
+            Step::Closed => open = open.saturating_sub(1),
             Step::End | Step::Refused(_) => return Ok(octets.len()),
+        }
+        if open == 0 {
+            return Ok(walk.offset().min(octets.len()));
         }
     }
 }
