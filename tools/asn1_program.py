@@ -243,11 +243,12 @@ def odd_files(program, room):
         ("no END", "check", first, 1, 0), ("other END", "check", pem.replace(b"END C", b"END D"), 1, 0),
         ("no base64", "check", pem.replace(b"MII", b"M!I"), 1, 0), ("a long string", "dump", b"\4\x84\0\x98\x96\x80" +
          b"a" * 10000000, 0, 1),
+        ("element before others", "dump --at 0", b"\x30\x80\0\0\x1f", 0, 1), ("none", "dump --at 2", b"\5\0\x1f", 1, 1),
     ]
     for name, task, octets, status, lines in rows:
         path = room / "odd"
         path.write_bytes(octets)
-        ended = run(program, task, path)
+        ended = run(program, *task.split(), path)
         yield f"{task} {name}", (ended.returncode, ended.stdout.count(b"\n")), (status, lines)
 
 
