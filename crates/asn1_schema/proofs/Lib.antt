@@ -47,3 +47,4 @@ pub mod WrittenAny
 pub mod DigitsJoined
 pub mod WrittenBits
 pub mod WrittenTapes
+pub mod MembersCounted

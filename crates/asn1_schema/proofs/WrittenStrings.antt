@@ -43,6 +43,12 @@ string_shape (of_time i) (kept_bits b bs) o e = absurd (cc)
 string_shape s (kept_row ks) o e = absurd (cc)
 string_shape s (kept_chosen k v) o e = absurd (cc)
 
+regrouped : (front init back : List Mark) (m : Mark) →
+    front ++ ((init ++ m ∷ []) ++ back) ≡ ((front ++ init) ++ m ∷ []) ++ back
+regrouped front init back m =
+    sym (append_assoc front (init ++ m ∷ []) back)
+    ∙ ap (λ (z : List Mark). z ++ back) (sym (append_assoc front init (m ∷ [])))
+
 -- Pieces of a string with these marks, at the end of a tape.
 module _ {A : Type 0} (make : List A → Leaf) (tape : List Item) where
   abbrev all_marks : List (List A) → List Mark
@@ -70,6 +76,14 @@ module _ {A : Type 0} (make : List A → Leaf) (tape : List Item) where
             ∙ append_assoc (before tape (rest - 1)) (leaf_mark (make x) ∷ []) (all_marks done));
       }
 
+  -- the marks of pieces, by the last one of those at the front
+  cut_marks : (all heads backs init : List (List A)) (x : List A) → all ≡ heads ++ backs → heads ≡ init ++ x ∷ [] →
+      all_marks all ≡ (all_marks init ++ leaf_mark (make x) ∷ []) ++ all_marks backs
+  cut_marks all heads backs init x e f =
+      ap all_marks e ∙ (map-append (λ y. leaf_mark (make y)) heads backs
+      ∙ ap (λ (z : List Mark). z ++ all_marks backs)
+      (ap all_marks f ∙ map-append (λ y. leaf_mark (make y)) init (x ∷ [])))
+
   -- where no piece stands before a place, there are no such pieces
   pub piece_missing : (start rest end : ℕ) (done : List (List A)) → end ≤ length tape → start < rest →
       PutsPieces make tape rest end done →
@@ -88,16 +102,11 @@ module _ {A : Type 0} (make : List A → Leaf) (tape : List Item) where
       let lu = ap length u.2 ∙ length-append u.0 u.1 in
       let few = u.3 in
       let v = last_of u.0 (omega (arith, few, less)) in
-      let split : all_marks all ≡ (all_marks v.0 ++ leaf_mark (make v.1) ∷ []) ++ all_marks u.1 =
-      ap all_marks u.2 ∙ (map-append (λ y. leaf_mark (make y)) u.0 u.1
-      ∙ ap (λ (z : List Mark). z ++ all_marks u.1)
-      (ap all_marks v.2 ∙ map-append (λ y. leaf_mark (make y)) v.0 (v.1 ∷ []))) in
       let lb = length-map u.1 (λ y. leaf_mark (make y)) in
-      let whole : before tape end ≡ ((before tape start ++ all_marks v.0) ++ leaf_mark (make v.1) ∷ []) ++ all_marks u.1 =
-      e ∙ (ap (λ (z : List Mark). before tape start ++ z) split
-      ∙ (sym (append_assoc (before tape start) (all_marks v.0 ++ leaf_mark (make v.1) ∷ []) (all_marks u.1))
-      ∙ ap (λ (z : List Mark). z ++ all_marks u.1)
-      (sym (append_assoc (before tape start) (all_marks v.0) (leaf_mark (make v.1) ∷ []))))) in
+      let front = before tape start in
+      let whole : before tape end ≡ ((front ++ all_marks v.0) ++ leaf_mark (make v.1) ∷ []) ++ all_marks u.1 =
+      e ∙ (ap (λ (z : List Mark). front ++ z) (cut_marks all u.0 u.1 v.0 v.1 u.2 v.2)
+      ∙ regrouped front (all_marks v.0) (all_marks u.1) (leaf_mark (make v.1))) in
       nothing v.1 (before tape start ++ all_marks v.0)
       (before_cut tape rest end ((before tape start ++ all_marks v.0) ++ leaf_mark (make v.1) ∷ []) (all_marks u.1)
       fits whole (omega (arith, lb, lu, few, count, less, w)))
