@@ -84,6 +84,16 @@ module _ {A : Type 0} (make : List A → Leaf) (tape : List Item) where
       ∙ ap (λ (z : List Mark). z ++ all_marks backs)
       (ap all_marks f ∙ map-append (λ y. leaf_mark (make y)) init (x ∷ [])))
 
+  -- the last piece before a place
+  piece_before : (start rest end : ℕ) (all heads backs init : List (List A)) (x : List A) → end ≤ length tape →
+      before tape end ≡ before tape start ++ all_marks all → all ≡ heads ++ backs → heads ≡ init ++ x ∷ [] →
+      length backs + rest ≡ end → before tape rest ≡ (before tape start ++ all_marks init) ++ leaf_mark (make x) ∷ []
+  piece_before start rest end all heads backs init x fits e f g l =
+      let size = length-map backs (λ y. leaf_mark (make y)) in
+      before_cut tape rest end ((before tape start ++ all_marks init) ++ leaf_mark (make x) ∷ []) (all_marks backs) fits
+      (e ∙ (ap (λ (z : List Mark). before tape start ++ z) (cut_marks all heads backs init x f g)
+      ∙ regrouped (before tape start) (all_marks init) (all_marks backs) (leaf_mark (make x)))) (omega (arith, size, l))
+
   -- where no piece stands before a place, there are no such pieces
   pub piece_missing : (start rest end : ℕ) (done : List (List A)) → end ≤ length tape → start < rest →
       PutsPieces make tape rest end done →
@@ -95,21 +105,13 @@ module _ {A : Type 0} (make : List A → Leaf) (tape : List Item) where
       let m = length_before tape start (omega (arith, fits, less, w)) in
       let a = ap length e ∙ length-append (before tape start) (all_marks all) in
       let la = length-map all (λ y. leaf_mark (make y)) in
-      let ld = length-map done (λ y. leaf_mark (make y)) in
-      let c = s.counted in
       let count : length all + start ≡ end = omega (arith, n, m, a, la) in
       let u = cut (rest - start) all (omega (arith, count, less, w)) in
-      let lu = ap length u.2 ∙ length-append u.0 u.1 in
       let few = u.3 in
+      let others = u.4 in
       let v = last_of u.0 (omega (arith, few, less)) in
-      let lb = length-map u.1 (λ y. leaf_mark (make y)) in
-      let front = before tape start in
-      let whole : before tape end ≡ ((front ++ all_marks v.0) ++ leaf_mark (make v.1) ∷ []) ++ all_marks u.1 =
-      e ∙ (ap (λ (z : List Mark). front ++ z) (cut_marks all u.0 u.1 v.0 v.1 u.2 v.2)
-      ∙ regrouped front (all_marks v.0) (all_marks u.1) (leaf_mark (make v.1))) in
-      nothing v.1 (before tape start ++ all_marks v.0)
-      (before_cut tape rest end ((before tape start ++ all_marks v.0) ++ leaf_mark (make v.1) ∷ []) (all_marks u.1)
-      fits whole (omega (arith, lb, lu, few, count, less, w)))
+      nothing v.1 (before tape start ++ all_marks v.0) (piece_before start rest end all u.0 u.1 v.0 v.1 fits e u.2 v.2
+      (omega (arith, others, count, less, w)))
 
   -- pieces with their marks on both sides
   pub pieces_closed : (at count start : ℕ) (x : List A) (xs : List (List A)) →
