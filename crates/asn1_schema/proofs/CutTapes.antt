@@ -41,12 +41,12 @@ between_places tape start end front inner fits e l =
 
 -- so many at the front of a list, and the others
 pub cut : {A : Type 0} (k : ℕ) (xs : List A) → k ≤ length xs →
-    (front : List A) × (back : List A) × (xs ≡ front ++ back) × (length front ≡ k)
-cut zero xs l = ([], xs, refl, refl)
+    (front : List A) × (back : List A) × (xs ≡ front ++ back) × (length front ≡ k) × (length back + k ≡ length xs)
+cut zero xs l = ([], xs, refl, refl, omega arith)
 cut (suc k) [] l = absurd (omega (arith, l))
 cut {A = A} (suc k) (x ∷ xs) l =
     let u = cut k xs (omega (arith, l)) in
-    (x ∷ u.0, u.1, ap (λ (z : List A). x ∷ z) u.2, omega (arith, u.3))
+    (x ∷ u.0, u.1, ap (λ (z : List A). x ∷ z) u.2, omega (arith, u.3), omega (arith, u.4))
 
 -- the last one of a list
 pub last_of : {A : Type 0} (xs : List A) → 0 < length xs → (init : List A) × (x : A) × (xs ≡ init ++ x ∷ [])

@@ -52,3 +52,4 @@ pub mod WrittenAny
 pub mod DigitsJoined
 pub mod WrittenBits
 pub mod WrittenTapes
+pub mod MembersCounted

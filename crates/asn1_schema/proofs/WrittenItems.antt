@@ -8,17 +8,16 @@ use Rattle.asn1_schema.specs.declared.fault.Fault.{Fault}
 use Rattle.asn1_schema.specs.declared.fault.Fault.TheVariants as faults
 use Rattle.asn1_schema.specs.declared.schema.Node.{Node}
 use Rattle.asn1_schema.specs.declared.tape.Item.{Item}
-use Rattle.asn1_schema.specs.Values.{Value, Values, none, absent, more, count}
-use Rattle.asn1_schema.specs.Grammar.{AreEach, AreItems, Body, Word}
+use Rattle.asn1_schema.specs.Values.{Value, Values, none, absent, more}
+use Rattle.asn1_schema.specs.Grammar.{AreEach, Word}
 use Rattle.asn1_schema.specs.Rules.{strict}
 use Rattle.asn1_schema.specs.Sound.{is_sound}
 use Rattle.asn1_schema.specs.Tape.{Kept, KeptRow, kept_none, kept_absent, kept_more, Mark, tape_of, tapes_of, value_of, values_of}
-use Rattle.asn1_schema.specs.Writing.{before, Writes, WritesRow, members, AreCountedItems, AreCounted, order_of, FirstIs, ItemsSoFar, row_behind}
+use Rattle.asn1_schema.specs.Writing.{before, Writes, WritesRow, members, AreCountedItems, AreCounted, order_of, FirstIs, ItemsSoFar}
 use Rattle.asn1_schema.proofs.OneTape.{one_tape_back}
 use Rattle.asn1_schema.proofs.OneWord.{one_word}
 use Rattle.asn1_schema.proofs.LastMarks.{rows_back}
 use Rattle.asn1_schema.proofs.WrittenLeaves.{grew_on}
-use Rattle.asn1_schema.proofs.WrittenRows.{each_counted}
 
 -- no members are in order
 none_in_order : (ascending : Bool) → order_of ascending []
@@ -234,11 +233,3 @@ none_written table depth n tape at old (Err e) ok err = (
       err (omega (arith, a, b)),
   ([], refl),
 )
-
--- the members of a list are as many as its values
-pub items_counted : (table : List Node) (depth t : ℕ) (ascending : Bool) (n : ℕ) (octets : List ℕ) (kept : KeptRow) →
-    n ≡ count (values_of (row_behind 0 kept)) →
-    AreItems strict (Body strict table depth t) (order_of ascending) octets (values_of kept) →
-    members (values_of kept) ≡ n
-items_counted table depth t ascending n octets kept is h =
-    sym (each_counted (Word strict table depth t) h.words (values_of kept) h.each).0 ∙ sym is

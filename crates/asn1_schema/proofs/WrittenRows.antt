@@ -12,8 +12,8 @@ use Rattle.asn1_schema.specs.declared.schema.Presence.TheVariants as presences
 use Rattle.asn1_schema.specs.declared.schema.Field.{Field}
 use Rattle.asn1_schema.specs.declared.schema.Node.{Node}
 use Rattle.asn1_schema.specs.declared.tape.Item.{Item}
-use Rattle.asn1_schema.specs.Values.{Value, Values, row, none, absent, more, count}
-use Rattle.asn1_schema.specs.Grammar.{Says, LeftOut, MayStand, AreEach, AreUnknown, AreFields, Body, Word}
+use Rattle.asn1_schema.specs.Values.{Value, Values, row, absent, more, count}
+use Rattle.asn1_schema.specs.Grammar.{Says, LeftOut, MayStand, AreUnknown, AreFields, Body, Word}
 use Rattle.asn1_schema.specs.Rules.{strict}
 use Rattle.asn1_schema.specs.Sound.{is_sound}
 use Rattle.asn1_schema.specs.Tape.{Kept, KeptRow, kept_row, kept_none, kept_absent, kept_more, Mark, begin_mark, end_mark, absent_mark, between, tape_of, tapes_of, value_of, values_of}
@@ -99,20 +99,6 @@ left_parts S presences.Optional (kept_more k ks) Rest a = absurd a
 left_parts S (presences.Default d) kept_none Rest a = absurd a
 left_parts S (presences.Default d) (kept_absent ks) Rest a = absurd a
 left_parts S (presences.Default d) (kept_more k ks) Rest a = inr (ks, k, d.items, refl, a.0, a.1)
-
--- each member has its word
-pub each_counted : (G : List ℕ → Value → Type 0) (words : List (List ℕ)) (vs : Values) → AreEach G words vs →
-    (count vs ≡ members vs) × (members vs ≡ length words)
-each_counted G [] none a = (refl, refl)
-each_counted G [] (absent vs) a = absurd a
-each_counted G [] (more v vs) a = absurd a
-each_counted G (w ∷ ws) none a = absurd a
-each_counted G (w ∷ ws) (absent vs) a = absurd a
-each_counted G (w ∷ ws) (more v vs) a =
-    let i = each_counted G ws vs a.1 in
-    let n = i.0 in
-    let m = i.1 in
-    (omega (arith, n), omega (arith, m))
 
 module _ (table : List Node) (depth : ℕ) (unknown : Option ℕ) where
   abbrev Sub : ℕ → Parts → Value → Type 0
@@ -369,7 +355,7 @@ module _ (table : List Node) (depth : ℕ) (unknown : Option ℕ) where
 
   -- the row is counted
   pub fields_counted : (n : ℕ) (fields : List Field) (octets : List ℕ) (kept : KeptRow) →
-      IfSome unknown (λ t. n ≡ count (values_of (row_behind (length fields) kept))) → IfNone unknown (n ≡ 0) →
+      IfSome unknown (λ t. n ≡ members (values_of (row_behind (length fields) kept))) → IfNone unknown (n ≡ 0) →
       Fields fields octets (values_of kept) → members (values_of kept) ≡ length fields + n
   fields_counted n fields octets kept some nothing h =
       let u = fields_split fields [] octets kept
@@ -378,10 +364,10 @@ module _ (table : List Node) (depth : ℕ) (unknown : Option ℕ) where
       let d = by_mark unknown u.rest (values_of (row_behind (length fields) kept)) some nothing u.holds in
       omega (arith, c, d)
     where
-      by_mark : (unknown : Option ℕ) (o : List ℕ) (vs : Values) → IfSome unknown (λ t. n ≡ count vs) →
+      by_mark : (unknown : Option ℕ) (o : List ℕ) (vs : Values) → IfSome unknown (λ t. n ≡ members vs) →
           IfNone unknown (n ≡ 0) → AreUnknown strict Sub unknown o vs → members vs ≡ n
       by_mark None o vs s z a = ap members a.1 ∙ sym z
-      by_mark (Some t) o vs s z a = sym (each_counted (Says strict (Sub t)) a.words vs a.each).0 ∙ sym s
+      by_mark (Some t) o vs s z a = sym s
 
 -- A row ends with its end, and begins where it says.
 module _ (P : List ℕ → Values → Type 0) (size : ℕ) where

@@ -43,6 +43,12 @@ string_shape (of_time i) (kept_bits b bs) o e = absurd (cc)
 string_shape s (kept_row ks) o e = absurd (cc)
 string_shape s (kept_chosen k v) o e = absurd (cc)
 
+regrouped : (front init back : List Mark) (m : Mark) →
+    front ++ ((init ++ m ∷ []) ++ back) ≡ ((front ++ init) ++ m ∷ []) ++ back
+regrouped front init back m =
+    sym (append_assoc front (init ++ m ∷ []) back)
+    ∙ ap (λ (z : List Mark). z ++ back) (sym (append_assoc front init (m ∷ [])))
+
 -- Pieces of a string with these marks, at the end of a tape.
 module _ {A : Type 0} (make : List A → Leaf) (tape : List Item) where
   abbrev all_marks : List (List A) → List Mark
@@ -70,6 +76,24 @@ module _ {A : Type 0} (make : List A → Leaf) (tape : List Item) where
             ∙ append_assoc (before tape (rest - 1)) (leaf_mark (make x) ∷ []) (all_marks done));
       }
 
+  -- the marks of pieces, by the last one of those at the front
+  cut_marks : (all heads backs init : List (List A)) (x : List A) → all ≡ heads ++ backs → heads ≡ init ++ x ∷ [] →
+      all_marks all ≡ (all_marks init ++ leaf_mark (make x) ∷ []) ++ all_marks backs
+  cut_marks all heads backs init x e f =
+      ap all_marks e ∙ (map-append (λ y. leaf_mark (make y)) heads backs
+      ∙ ap (λ (z : List Mark). z ++ all_marks backs)
+      (ap all_marks f ∙ map-append (λ y. leaf_mark (make y)) init (x ∷ [])))
+
+  -- the last piece before a place
+  piece_before : (start rest end : ℕ) (all heads backs init : List (List A)) (x : List A) → end ≤ length tape →
+      before tape end ≡ before tape start ++ all_marks all → all ≡ heads ++ backs → heads ≡ init ++ x ∷ [] →
+      length backs + rest ≡ end → before tape rest ≡ (before tape start ++ all_marks init) ++ leaf_mark (make x) ∷ []
+  piece_before start rest end all heads backs init x fits e f g l =
+      let size = length-map backs (λ y. leaf_mark (make y)) in
+      before_cut tape rest end ((before tape start ++ all_marks init) ++ leaf_mark (make x) ∷ []) (all_marks backs) fits
+      (e ∙ (ap (λ (z : List Mark). before tape start ++ z) (cut_marks all heads backs init x f g)
+      ∙ regrouped (before tape start) (all_marks init) (all_marks backs) (leaf_mark (make x)))) (omega (arith, size, l))
+
   -- where no piece stands before a place, there are no such pieces
   pub piece_missing : (start rest end : ℕ) (done : List (List A)) → end ≤ length tape → start < rest →
       TakesPieces make tape rest end done →
@@ -81,26 +105,13 @@ module _ {A : Type 0} (make : List A → Leaf) (tape : List Item) where
       let m = length_before tape start (omega (arith, fits, less, w)) in
       let a = ap length e ∙ length-append (before tape start) (all_marks all) in
       let la = length-map all (λ y. leaf_mark (make y)) in
-      let ld = length-map done (λ y. leaf_mark (make y)) in
-      let c = s.counted in
       let count : length all + start ≡ end = omega (arith, n, m, a, la) in
       let u = cut (rest - start) all (omega (arith, count, less, w)) in
-      let lu = ap length u.2 ∙ length-append u.0 u.1 in
       let few = u.3 in
+      let others = u.4 in
       let v = last_of u.0 (omega (arith, few, less)) in
-      let split : all_marks all ≡ (all_marks v.0 ++ leaf_mark (make v.1) ∷ []) ++ all_marks u.1 =
-      ap all_marks u.2 ∙ (map-append (λ y. leaf_mark (make y)) u.0 u.1
-      ∙ ap (λ (z : List Mark). z ++ all_marks u.1)
-      (ap all_marks v.2 ∙ map-append (λ y. leaf_mark (make y)) v.0 (v.1 ∷ []))) in
-      let lb = length-map u.1 (λ y. leaf_mark (make y)) in
-      let whole : before tape end ≡ ((before tape start ++ all_marks v.0) ++ leaf_mark (make v.1) ∷ []) ++ all_marks u.1 =
-      e ∙ (ap (λ (z : List Mark). before tape start ++ z) split
-      ∙ (sym (append_assoc (before tape start) (all_marks v.0 ++ leaf_mark (make v.1) ∷ []) (all_marks u.1))
-      ∙ ap (λ (z : List Mark). z ++ all_marks u.1)
-      (sym (append_assoc (before tape start) (all_marks v.0) (leaf_mark (make v.1) ∷ []))))) in
-      nothing v.1 (before tape start ++ all_marks v.0)
-      (before_cut tape rest end ((before tape start ++ all_marks v.0) ++ leaf_mark (make v.1) ∷ []) (all_marks u.1)
-      fits whole (omega (arith, lb, lu, few, count, less, w)))
+      nothing v.1 (before tape start ++ all_marks v.0) (piece_before start rest end all u.0 u.1 v.0 v.1 fits e u.2 v.2
+      (omega (arith, others, count, less, w)))
 
   -- pieces with their marks on both sides
   pub pieces_closed : (at count start : ℕ) (x : List A) (xs : List (List A)) →

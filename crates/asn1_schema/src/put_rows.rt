@@ -3,14 +3,13 @@ ghost use Rattle.std.specs.Prelude.{ℕ, ℤ, List, [], ◌∷◌, ◌++◌, ◌
 ghost use Rattle.std.specs.Prelude.{Some, None, IfSome, IfNone, IfOk, IfErr, slice_get};
 ghost use Rattle.std.specs.List.{concat};
 ghost use Rattle.x690.specs.Octets.{IsBeforeOrSame};
-ghost use Rattle.asn1_schema.specs.Values.{count, measure};
+ghost use Rattle.asn1_schema.specs.Values.{measure};
 ghost use Rattle.asn1_schema.specs.Tape.{Mark, Kept, KeptRow, marks, tape_of, tapes_of, value_of, values_of};
 ghost use Rattle.asn1_schema.specs.Reading.{JudgesBounds};
 ghost use Rattle.asn1_schema.specs.Writing.{before, BeginsRow, BeginsArm, members, row_behind};
 ghost use Rattle.asn1_schema.specs.Writing.{FirstIs, order_of};
 
 use crate::bounds::judge_bounds;
-use crate::counting::count_values;
 use crate::cursor::split_value;
 use crate::endings::{last_arm_begin, last_begin};
 use crate::fault::Fault;
@@ -84,16 +83,33 @@ fn behind_fields<'t, 'a>(items: &'t [Item<'a>], places: usize) -> &'t [Item<'a>]
     rest
 }
 
-/// How many values stand behind so many fields among so many items before a place.
+/// How many fields or members stand in a row of items.
+fn count_members(items: &[Item<'_>]) -> usize
+    ensures { (kept : KeptRow) → marks items.now ≡ tapes_of kept →
+        result ≡ members (values_of kept) }
+{
+    let mut count = 0;
+    let mut rest = items;
+    for _ in 0..items.len() {
+        if rest.is_empty() {
+            return count;
+        }
+        rest = behind_first(rest);
+        count += 1;
+    }
+    count
+}
+
+/// How many fields or members stand behind so many fields among so many items before a place.
 pub(crate) fn count_behind(places: usize, tape: &[Item<'_>], items: usize, end: usize) -> usize
     requires { end ≤ length tape.now }
     ensures { (front : List Mark) (kept : KeptRow) → before tape.now end ≡ front ++ tapes_of kept →
         length (tapes_of kept) ≡ items →
-        result ≡ count (values_of (row_behind places kept)) }
+        result ≡ members (values_of (row_behind places kept)) }
 {
     let start = end.saturating_sub(items);
     let row = &tape[start..end];
-    count_values(behind_fields(row, places))
+    count_members(behind_fields(row, places))
 }
 
 /// How many unknown elements stand behind so many fields among so many items before a place: none, where there is no
@@ -108,7 +124,7 @@ pub(crate) fn count_unknown(
     requires { end ≤ length tape.now }
     ensures some { (front : List Mark) (kept : KeptRow) →
         before tape.now end ≡ front ++ tapes_of kept → length (tapes_of kept) ≡ items →
-        IfSome unknown (λ t. result ≡ count (values_of (row_behind places kept))) }
+        IfSome unknown (λ t. result ≡ members (values_of (row_behind places kept))) }
     ensures none { IfNone unknown (result ≡ 0) }
 {
     match unknown {

@@ -1,8 +1,6 @@
-use Rattle.std.proofs.Common.{◌∙◌, ap, List, length, length-append, arith}
-use Rattle.asn1_schema.specs.Tape.{Mark, tapes_of}
-use Rattle.asn1_schema.specs.Counting.{values_from}
+use Rattle.std.proofs.Common.{◌∙◌, ap, length, length-append, arith}
+use Rattle.asn1_schema.specs.Tape.{tapes_of}
 use Rattle.asn1_schema.specs.Writing.{row_behind}
-use Rattle.asn1_schema.proofs.Counts.{count_of_row}
 use Rattle.asn1_schema.proofs.CutTapes.{length_before, between_places}
 use Rattle.asn1_schema.proofs.put_rows.count_behind.Goals as goal
 
@@ -11,6 +9,6 @@ returns c front kept e l =
     let n = length_before c.args.tape.now c.args.end c.requires in
     let m = ap length e ∙ length-append front (tapes_of kept) in
     let start = c.saturating_sub-start.ensures in
-    c.count_values.ensures ∙ (ap (λ (z : List Mark). values_from 0 0 z)
+    c.count_members.ensures (row_behind c.args.places kept)
     (c.behind_fields.ensures kept (between_places c.args.tape.now c.saturating_sub-start.result c.args.end front (tapes_of kept)
-    c.requires e (omega (arith, l, start, n, m)))) ∙ count_of_row (row_behind c.args.places kept))
+    c.requires e (omega (arith, l, start, n, m))))

@@ -12,7 +12,7 @@ use Rattle.asn1_schema.proofs.Taken.{bounds_order}
 use Rattle.asn1_schema.proofs.WrittenLeaves.{refused}
 use Rattle.asn1_schema.proofs.WrittenElements.{single_of, classes_of, none_at_zero, none_of_none, found_within, content_refused, element_written, row_written, list_written, set_written, explicit_written}
 use Rattle.asn1_schema.proofs.WrittenRows.{required_written, optional_written, default_written, fields_begun, field_written, fields_written, fields_unbegun, fields_stopped, fields_counted, no_row_end, row_stopped, row_ended}
-use Rattle.asn1_schema.proofs.WrittenItems.{items_begun, item_written, item_stopped, item_unordered, none_written, items_counted}
+use Rattle.asn1_schema.proofs.WrittenItems.{items_begun, item_written, item_stopped, item_unordered, none_written}
 use Rattle.asn1_schema.proofs.WrittenChoices.{arms_before, choice_written, no_arm_end, no_arm, arm_stopped, arm_ended, bounds_written, within_stopped, within_judged}
 use Rattle.asn1_schema.proofs.WrittenAny.{any_type_written}
 use Rattle.asn1_schema.proofs.writing.+writing.Goals as goal
@@ -275,16 +275,14 @@ pub put_list-returns-in-Err : goal.put_list-returns-in-Err
 put_list-returns-in-Err t c = row_stopped (AreItems strict (Body strict c.args.nodes.now c.args.depth c.args.of)
     (order_of c.args.ascending)) c.count_behind-count.result c.args.tape.now c.args.at c.in-Some.items
     c.args.buf.now c.put_items.new.buf c.in-Err.e c.in-Some.ensures.1
-    (λ octets front ks h e l. items_counted c.args.nodes.now c.args.depth c.args.of c.args.ascending
-    c.count_behind-count.result octets ks (c.count_behind-count.ensures front ks e l) h) c.in-Err.ensures
+    (λ octets front ks h e l. sym (c.count_behind-count.ensures front ks e l)) c.in-Err.ensures
 
 pub put_list-returns-in-Ok : goal.put_list-returns-in-Ok
 put_list-returns-in-Ok t c = row_ended (AreItems strict (Body strict c.args.nodes.now c.args.depth c.args.of)
     (order_of c.args.ascending)) c.count_behind-count.result c.args.tape.now c.args.at c.in-Ok.rest
     c.in-Some.items c.args.buf.now c.put_items.new.buf c.begin_row.result c.requires.place c.in-Some.ensures.0
     c.in-Some.ensures.1
-    (λ octets front ks h e l. items_counted c.args.nodes.now c.args.depth c.args.of c.args.ascending
-    c.count_behind-count.result octets ks (c.count_behind-count.ensures front ks e l) h) c.in-Ok.ensures c.begin_row.ensures
+    (λ octets front ks h e l. sym (c.count_behind-count.ensures front ks e l)) c.in-Ok.ensures c.begin_row.ensures
 
 pub put_items-loop-left-init : goal.put_items-loop-left-init
 put_items-loop-left-init t c = items_begun c.args.nodes.now c.requires.sound c.args.depth c.args.of c.args.ascending
