@@ -27,8 +27,12 @@ struct Defaulted {
 /// The fields of a sequence, and the defaults of these.
 #[derive(Debug, Drop)]
 struct Row<'t> {
+    /// The fields.
     parts: Vec<Part<'t>>,
+    /// Their defaults.
     defaults: Vec<Defaulted>,
+    /// How many more components may be looked at.
+    looks: usize,
 }
 
 impl<'s, 't> Places<'s, 't> {
@@ -97,6 +101,7 @@ impl<'s, 't> Places<'s, 't> {
         let mut row = Row {
             parts: Vec::new(self.alloc),
             defaults: Vec::new(self.alloc),
+            looks: self.texts.syntax.components.len().saturating_mul(2),
         };
         self.push_parts(&mut row, declared, of.0, MOST_DEPTH)?;
         defaults.extend_from_slice(&row.defaults)?;
@@ -108,7 +113,8 @@ impl<'s, 't> Places<'s, 't> {
         built(declared.stands, made)
     }
 
-    /// Puts components behind others, with those of other types where they stand.
+    /// Puts components behind others, with those of other types where they stand. Where more are looked at than twice
+    /// those of all texts, some have the same name.
     #[cycle(parts)]
     fn push_parts(
         &self,
@@ -117,10 +123,14 @@ impl<'s, 't> Places<'s, 't> {
         span: Span,
         depth: usize,
     ) -> Result<(), ModuleError> {
-        if depth == 0 || row.parts.len() > self.texts.syntax.components.len() {
+        if depth == 0 {
             return Err(declared.stands.error(Wrong::Depth));
         }
         for component in part(&self.texts.syntax.components, span) {
+            if row.looks == 0 {
+                return Err(declared.stands.error(Wrong::Repeated));
+            }
+            row.looks -= 1;
             match component.appearance {
                 Appearance::Components => {
                     let inner = self.components_of(component)?;

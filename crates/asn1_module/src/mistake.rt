@@ -41,6 +41,8 @@ pub enum Wrong {
     LeadsToItself,
     /// The components are of a type that is not a sequence.
     NotSequence,
+    /// The components of other types stand in one sequence too often.
+    Repeated,
     /// The number of a listed or named number, or of a bit, is not known.
     NoNumber,
     /// An arm may have any tag but some, so that no unknown arm is told from it.
@@ -129,6 +131,7 @@ impl fmt::Display for Wrong {
             Wrong::NotType => write!(f, "not a type"),
             Wrong::LeadsToItself => write!(f, "leads to itself, and no element stands between"),
             Wrong::NotSequence => write!(f, "not a sequence"),
+            Wrong::Repeated => write!(f, "the components repeat"),
             Wrong::NoNumber => write!(f, "the number is not known"),
             Wrong::OpenArm => write!(f, "an unknown arm is not told from the arms"),
         }

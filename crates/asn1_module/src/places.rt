@@ -367,7 +367,11 @@ impl<'s, 't> Places<'s, 't> {
             _ => None,
         };
         match body {
-            None => built(named.0, schema.implicit(tag, of)),
+            None => {
+                let place = built(named.0, schema.implicit(tag, of))?;
+                set_name(schema, place, named.1);
+                Ok(place)
+            }
             Some(body) => {
                 let place = built(named.0, schema.declare(named.1, tag))?;
                 let stands = named.0;
@@ -434,6 +438,13 @@ impl<'s, 't> Places<'s, 't> {
         }
         self.note(LeftOut::Constraint, entry.place)?;
         Ok(inner)
+    }
+}
+
+/// Gives the type at a place of the table a name.
+fn set_name<'t>(schema: &mut Schema<'t>, place: usize, name: &'t str) {
+    if let Some(names) = schema.names.get_mut(place) {
+        names.name = name;
     }
 }
 

@@ -102,11 +102,16 @@ impl<'s, 't> Texts<'s, 't> {
     ) -> Result<Vec<PartName<'t>>, ModuleError> {
         let given = self.given_numbers(alloc, span)?;
         let mut labels = Vec::new(alloc);
+        let mut left = given.as_slice();
         let mut next = 0i128;
         for named in part(&self.syntax.numbers, span) {
             let number = match self.given(named)? {
                 Some(number) => number,
-                None => free_number(&given, next),
+                None => {
+                    let (free, behind) = free_number(left, next);
+                    left = behind;
+                    free
+                }
             };
             if named.number.is_none() || (named.is_addition && next <= number) {
                 next = number.saturating_add(1);
@@ -148,15 +153,20 @@ impl<'s, 't> Texts<'s, 't> {
     }
 }
 
-/// The least number from this one on that is not among others, which are sorted.
-fn free_number(given: &[i128], least: i128) -> i128 {
+/// The least number from this one on that is not among others, which ascend, and those of them that are more.
+fn free_number(given: &[i128], least: i128) -> (i128, &[i128]) {
+    let mut left = given;
     let mut free = least;
-    for number in given {
-        if *number == free {
+    while let Some((first, others)) = left.split_first() {
+        if *first > free {
+            break;
+        }
+        if *first == free {
             free = free.saturating_add(1);
         }
+        left = others;
     }
-    free
+    (free, left)
 }
 
 /// The union of ranges that are sorted, if it is one range.

@@ -208,12 +208,27 @@ impl<'s, 't> Reader<'s, 't> {
         Ok(at)
     }
 
-    /// Gives a type a name, if it has none.
+    /// Gives a type a name if it has none, and so the types in its tags and constraints.
     fn name_type(&mut self, of: usize, name: &'t str) {
-        if let Some(entry) = self.syntax.types.get_mut(of) {
-            if entry.name.is_empty() {
-                entry.name = name;
+        let mut at = of;
+        for _ in 0..MOST_DEPTH {
+            match self.name_entry(at, name) {
+                Some(inner) => at = inner,
+                None => break,
             }
+        }
+    }
+
+    /// Gives an entry a name if it has none, and answers the type that it tags or constrains.
+    fn name_entry(&mut self, at: usize, name: &'t str) -> Option<usize> {
+        let entry = self.syntax.types.get_mut(at)?;
+        if entry.name.is_empty() {
+            entry.name = name;
+        }
+        match entry.syntax {
+            TypeSyntax::Tagged(_, _, inner) => Some(inner),
+            TypeSyntax::Within(inner, _, _) => Some(inner),
+            _ => None,
         }
     }
 }

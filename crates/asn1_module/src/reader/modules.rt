@@ -207,6 +207,7 @@ impl<'s, 't> Reader<'s, 't> {
         self.owner = name;
         let of = self.read_type(MOST_DEPTH)?;
         self.rename_type(of, name);
+        self.name_type(of, name);
         Ok(Meaning::Type(of))
     }
 
