@@ -2,9 +2,7 @@
 
 use crate::mistake::{ModuleError, Place, Wrong};
 use crate::reader::MOST_DEPTH;
-use crate::syntax::{
-    Component, LeftOut, Meaning, Note, Span, TagMode, TypeEntry, TypeSyntax, part,
-};
+use crate::syntax::{LeftOut, Meaning, Note, Span, TagMode, TypeEntry, TypeSyntax, part};
 use crate::values::Texts;
 use asn1_schema::build::{Schema, universal};
 use asn1_schema::parts::arm;

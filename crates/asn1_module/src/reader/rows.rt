@@ -1,6 +1,6 @@
 //! Components and arms (X.680 25, 29), with extension marks and automatic tags.
 
-use crate::mistake::{ModuleError, Place, Wrong};
+use crate::mistake::{ModuleError, Wrong};
 use crate::reader::Reader;
 use crate::syntax::{Appearance, Component, LeftOut, Span, TagMode, TypeSyntax, put_all};
 use crate::tokens::TokenKind;

@@ -2,7 +2,7 @@
 
 use crate::mistake::{ModuleError, Place, Wrong};
 use crate::reader::Reader;
-use crate::syntax::{LeftOut, Span, TagMode, TypeSyntax};
+use crate::syntax::{Span, TagMode, TypeSyntax};
 use crate::tokens::TokenKind;
 use asn1_schema::schema::{TextKind, TypeTag};
 
