@@ -1,0 +1,3 @@
+pub mod Mistakes
+pub mod Modules
+pub mod Tokens

@@ -1,0 +1,154 @@
+//! Modules, read into a table.
+ghost use Rattle.std.specs.Prelude.{◌≡◌, ◌≢◌, true, false, IfSome, IfNone, IfErr};
+ghost use Rattle.asn1_module.specs.Mistakes.{StandsWithin};
+ghost use Rattle.asn1_module.specs.Modules.{IsTypeNamed, LacksType};
+
+use crate::mistake::{Mistake, ModuleError, Place};
+use crate::places::Places;
+use crate::reader::Reader;
+use crate::scopes::Scopes;
+use crate::syntax::{Meaning, Note, Syntax};
+use crate::tokens::tokens_of;
+use crate::values::Texts;
+use asn1_schema::build::Schema;
+use std::alloc::Global;
+
+/// A type of a module.
+#[derive(Debug, Clone, Copy)]
+pub struct ModuleType<'t> {
+    /// The name of the module.
+    pub module: &'t str,
+    /// The name of the type.
+    pub name: &'t str,
+    /// Its place in the table.
+    pub of: usize,
+}
+
+/// The types of modules, in the order in which they are assigned.
+#[derive(Debug, Drop)]
+pub struct Modules<'t> {
+    /// The types.
+    pub types: Vec<ModuleType<'t>>,
+}
+
+/// Whether a type has this name.
+fn is_named(named: &ModuleType<'_>, name: &str) -> bool
+    ensures yes { result ≡ true → named.now.name.now ≡ name.now }
+    ensures no { result ≡ false → named.now.name.now ≢ name.now }
+{
+    named.name == name
+}
+
+impl<'t> Modules<'t> {
+    /// The place of the first type that has this name.
+    pub fn type_named(&self, name: &str) -> Option<usize>
+        ensures some { IfSome result (IsTypeNamed self.now.types.items name.now) }
+        ensures none { IfNone result (LacksType self.now.types.items name.now) }
+    {
+        for named in &self.types {
+            if is_named(named, name) {
+                return Some(named.of);
+            }
+        }
+        None
+    }
+}
+
+/// A refusal whose mistake stands within its text, or at its end.
+fn within(texts: &[&[u8]], error: ModuleError) -> ModuleError
+    ensures { StandsWithin texts.now result }
+{
+    match error {
+        ModuleError::OutOfMemory => ModuleError::OutOfMemory,
+        ModuleError::Mistake(mistake) => {
+            let place = mistake.place;
+            let octet = match texts.get(place.text) {
+                None => place.octet,
+                Some(text) => place.octet.min(text.len()),
+            };
+            let text = place.text;
+            ModuleError::Mistake(Mistake {
+                wrong: mistake.wrong,
+                place: Place { text, octet },
+            })
+        }
+    }
+}
+
+/// What the texts say, as it is written.
+fn read_syntax<'t>(alloc: Global, texts: &[&'t [u8]]) -> Result<Syntax<'t>, ModuleError> {
+    let tokens = tokens_of(alloc, texts)?;
+    let mut reader = Reader::new(alloc, &tokens);
+    reader.read_all()?;
+    Ok(reader.into_syntax())
+}
+
+/// The types that have names, with their places.
+fn named_types<'t>(
+    alloc: Global,
+    syntax: &Syntax<'t>,
+    places: &Places<'_, 't>,
+) -> Result<Modules<'t>, ModuleError> {
+    let mut types = Vec::new(alloc);
+    for assignment in &syntax.assignments {
+        if let Meaning::Type(at) = assignment.meaning {
+            let module = syntax.modules.get(assignment.module);
+            if let (Some(module), Some(of)) = (module, places.placed(at)) {
+                types.push(ModuleType {
+                    module: module.name,
+                    name: assignment.name,
+                    of,
+                })?;
+            }
+        }
+    }
+    Ok(Modules { types })
+}
+
+/// Puts the types of what the texts say into a table.
+fn make_types<'t>(
+    alloc: Global,
+    syntax: &Syntax<'t>,
+    schema: &mut Schema<'t>,
+    notes: &mut Vec<Note>,
+) -> Result<Modules<'t>, ModuleError> {
+    let scopes = Scopes::new(alloc, syntax)?;
+    let texts = Texts {
+        syntax,
+        scopes: &scopes,
+    };
+    let mut places = Places::new(alloc, texts)?;
+    places.place_all(schema)?;
+    places.define_all(schema)?;
+    notes.extend_from_slice(&syntax.notes)?;
+    notes.extend_from_slice(&places.notes)?;
+    named_types(alloc, syntax, &places)
+}
+
+/// Reads texts, and puts their types into a table.
+fn read_texts<'t>(
+    alloc: Global,
+    texts: &[&'t [u8]],
+    schema: &mut Schema<'t>,
+    notes: &mut Vec<Note>,
+) -> Result<Modules<'t>, ModuleError> {
+    let syntax = read_syntax(alloc, texts)?;
+    make_types(alloc, &syntax, schema, notes)
+}
+
+/// Reads modules and puts their types into a table. Names are resolved among all of them.
+///
+/// After an `Err` the table may have types that are not defined. Whether it is sound is asked of `asn1_schema`.
+pub fn read_modules<'t>(
+    alloc: Global,
+    texts: &[&'t [u8]],
+    schema: &mut Schema<'t>,
+    notes: &mut Vec<Note>,
+) -> Result<Modules<'t>, ModuleError>
+    ensures { IfErr result (StandsWithin texts.now) }
+{
+    match read_texts(alloc, texts, schema, notes) {
+        Ok(modules) => Ok(modules),
+        Err(error) => Err(within(texts, error)),
+    }
+}
