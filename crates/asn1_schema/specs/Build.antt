@@ -118,8 +118,8 @@ AreSameFields [] [] = Unit {0}
 AreSameFields (f ∷ fs) (g ∷ gs) = (g.of ≡ f.of) × IsSamePresence f.presence g.presence × AreSameFields fs gs
 AreSameFields _ _ = ⊥
 
--- The kind of a type under another tag: the same, but that a choice and any element get the tag round them
--- (X.680 31.2.7), and bounds then bound a type under the tag, at this place.
+-- The kind of a type under another tag is the same, but a choice and any element get the tag round them (X.680 31.2.7).
+-- Bounds then bound a type under the tag, at this place.
 abbrev pub IsRetagged : ℕ → ℕ → Kind → Kind → Type 0
 IsRetagged of inner (kinds.Enumerated ns e) (kinds.Enumerated ms f) = (ms.items ≡ ns.items) × (f ≡ e)
 IsRetagged of inner (kinds.Enumerated ns e) _ = ⊥
@@ -194,8 +194,8 @@ last_places [] = []
 last_places (p ∷ ps) =
     if list_all may_be_omitted (p ∷ ps) then map (λ q. q.of) (p ∷ ps) else last_places ps
 
--- A type stands behind the others, and one of unknown elements right before it: any element, but with no tag of the types
--- at these places, and not the end of contents octets (X.690 8.1.5).
+-- A type stands behind the others, and one of unknown elements right before it. An unknown element has no tag of the types
+-- at these places, and is not the end of contents octets (X.690 8.1.5).
 pub record IsAddedOpen (old new : List Node) (place : ℕ) (told : List ℕ) (P : ℕ → Node → Type 0) : Type 0 where
   pub unknown : Node
   pub is_any : unknown.kind ≡ kinds.Any

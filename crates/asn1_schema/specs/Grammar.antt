@@ -76,8 +76,8 @@ IsUniversal number id = (id.class ≡ 0) × (id.number ≡ number)
 
 -- Strings.
 
--- What strings of a type are made of: the tag of their pieces, what contents octets say,
--- and what a piece is of that is not the last one.
+-- What strings of a type are made of: the tag of their pieces, what contents octets say, and what each piece but the
+-- last one is.
 pub record StringOf (A : Type 0) : Type 1 where
   pub number : ℕ
   pub Content : List ℕ → List A → Type 0

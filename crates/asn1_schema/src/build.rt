@@ -467,8 +467,8 @@ impl<'n> Schema<'n> {
         self.put(node, TypeNames { name: "", labels })
     }
 
-    /// SEQUENCE of these fields and an extension mark: unknown elements may follow, but none with the tag of a field
-    /// at the end that may be left out.
+    /// SEQUENCE of these fields and an extension mark. Unknown elements may follow, but none with the tag of a field at
+    /// the end that may be left out.
     pub fn open_sequence(&mut self, name: &'n str, parts: &[Part<'n>]) -> Result<usize, BuildError>
         ensures { PutsOpen self.old.nodes.items self.new.nodes.items (last_places parts.now)
             (λ unknown. IsLike (universal 16) (IsRow parts.now (Some unknown))) result }

@@ -34,15 +34,18 @@ fn error_of(fault: Fault) -> EncodeError
     }
 }
 
-/// PutsWord the one strict encoding (X.690 10, 11) of a value of a type of a sound table in front of the octets of a
-/// buffer. The tape holds the value and nothing else.
+/// Puts the one strict encoding (X.690 10, 11) of a value in front of the octets of a buffer. The tape holds the value,
+/// which is one of a type of a sound table, and nothing else.
 ///
 /// `of` is the place of the type in the table. Elements may nest `depth` deep, and one that has no others within has
 /// depth 1. Strings in pieces are joined, and what is a default is left out (11.5).
 ///
-/// `Refused` says that the tape is that of no value of the type which has a strict encoding: none has a set-of whose
-/// members do not ascend (11.6), bits with names that end in zeros (11.2.2), a time that is not in its strict form
-/// (11.7, 11.8), or an element of any type with a header within that is not strict (10.1).
+/// `Refused` says that the tape is that of no value of the type with a strict encoding. None has
+/// - a set-of whose members do not ascend (11.6);
+/// - bits with names that end in zeros (11.2.2);
+/// - a time that is not in its strict form (11.7, 11.8);
+/// - an element of any type with a header within that is not strict (10.1).
+///
 /// After an `Err` the buffer is as it was.
 pub fn encode_der(
     table: &[Node],

@@ -11,7 +11,7 @@ use crate::fault::Fault;
 use crate::schema::{Kind, Tags, TypeTag};
 use asn1_headers::buffer::{DerBuffer, keep_last, prepend_element};
 
-/// PutsWord octets in front.
+/// Puts octets in front.
 pub(crate) fn put(octets: &[u8], buf: &mut DerBuffer) -> Result<(), Fault>
     ensures ok { OnOk result (buf.new ≡ octets.now ++ buf.old) }
     ensures err { IfErr result (λ e. (e ≡ faults.Memory) × (buf.new ≡ buf.old)) }
@@ -23,7 +23,7 @@ pub(crate) fn put(octets: &[u8], buf: &mut DerBuffer) -> Result<(), Fault>
     }
 }
 
-/// PutsWord octets in front, and answers the place.
+/// Puts octets in front, and answers the place.
 pub(crate) fn put_at(octets: &[u8], place: usize, buf: &mut DerBuffer) -> Result<usize, Fault>
     ensures put { MatchResult result (λ rest. (rest ≡ place) × (buf.new ≡ octets.now ++ buf.old))
         (λ e. (e ≡ faults.Memory) × (buf.new ≡ buf.old)) }
@@ -72,7 +72,7 @@ pub(crate) fn is_constructed(kind: &Kind) -> bool
     }
 }
 
-/// PutsWord the header of an element before its contents octets, which stand in front of so many octets.
+/// Puts the header of an element before its contents octets, which stand in front of so many octets.
 pub(crate) fn put_header(
     class: u8,
     constructed: bool,
@@ -95,7 +95,7 @@ pub(crate) fn put_header(
     }
 }
 
-/// PutsWord the header of an element with the one tag before its contents octets, and answers the place.
+/// Puts the header of an element with the one tag before its contents octets, and answers the place.
 pub(crate) fn finish(
     tags: &Tags,
     constructed: bool,

@@ -1,5 +1,5 @@
-//! Types of ASN.1 as ordinary data (ITU-T X.680): a table of types, one decoder and one encoder for all types of all
-//! sound tables, by the rules of X.690.
+//! Types of ASN.1 as ordinary data (ITU-T X.680), in tables. One decoder and one encoder serve all types of all sound
+//! tables, by the rules of X.690.
 #![tactic(auto)]
 
 mod alike;

@@ -13,8 +13,8 @@ use crate::tagged::has_a_tag;
 use crate::tape::Item;
 use asn1_headers::buffer::DerBuffer;
 
-/// Whether there is an element with this head and these contents octets that has one of the tags, and each header
-/// within is strict (X.690 10.1).
+/// Whether an element with this head and these contents octets has one of the tags, and each header within is strict
+/// (X.690 10.1).
 fn may_be_any(tags: &Tags, depth: usize, head: Head, content: &[u8]) -> bool
     requires { head.indefinite ≡ false }
     ensures { IsTrue result ↔ MayBeAny tags.now depth (id_of head) content.now }
@@ -22,7 +22,7 @@ fn may_be_any(tags: &Tags, depth: usize, head: Head, content: &[u8]) -> bool
     head.class < 4 && has_a_tag(tags, head) && is_strict_inside(depth, head, content)
 }
 
-/// PutsWord an element of any type in front that has one of the tags.
+/// Puts an element of any type in front that has one of the tags.
 pub(crate) fn put_any(
     tags: &Tags,
     depth: usize,

@@ -62,7 +62,7 @@ fn power(count: u8) -> u16
     }
 }
 
-/// PutsWord the bits of an octet but for the last ones, so many, in front.
+/// Puts the bits of an octet but for the last ones, so many, in front.
 fn push_octet(pending: Pending, skip: u8, octet: u8, buf: &mut DerBuffer) -> Result<Pending, Fault>
     requires skip { skip ≤ 7 }
     requires pending { IsPending pending }
@@ -82,7 +82,7 @@ fn push_octet(pending: Pending, skip: u8, octet: u8, buf: &mut DerBuffer) -> Res
     }
 }
 
-/// PutsWord the bits of octets in front.
+/// Puts the bits of octets in front.
 fn push_octets(pending: Pending, octets: &[u8], buf: &mut DerBuffer) -> Result<Pending, Fault>
     requires { IsPending pending }
     ensures { Pushes (bits_in octets.now) pending buf.old buf.new result }
@@ -105,7 +105,7 @@ fn push_octets(pending: Pending, octets: &[u8], buf: &mut DerBuffer) -> Result<P
     Ok(so_far)
 }
 
-/// PutsWord the bits of a piece in front.
+/// Puts the bits of a piece in front.
 fn push_piece(
     pending: Pending,
     unused: u8,
@@ -145,7 +145,7 @@ fn unused_behind(tape: &[Item<'_>], start: usize, end: usize) -> Option<u8>
     Some(unused)
 }
 
-/// PutsWord the bits of the pieces between two places in front, the last one first.
+/// Puts the bits of the pieces between two places in front, the last one first.
 fn push_pieces(
     pending: Pending,
     tape: &[Item<'_>],
@@ -174,7 +174,7 @@ fn push_pieces(
     Ok(so_far)
 }
 
-/// PutsWord the contents octets of the bits of pieces between two places in front.
+/// Puts the contents octets of the bits of pieces between two places in front.
 fn put_bit_pieces(
     tape: &[Item<'_>],
     start: usize,
@@ -199,7 +199,7 @@ fn put_bit_pieces(
     }
 }
 
-/// PutsWord the contents octets of bits in front that stand in so many pieces, which end at a place.
+/// Puts the contents octets of bits in front that stand in so many pieces, which end at a place.
 fn put_in_pieces(
     count: usize,
     tape: &[Item<'_>],
@@ -221,7 +221,7 @@ fn put_in_pieces(
     }
 }
 
-/// PutsWord the contents octets of bits in front, whatever is asked of them. Bits in one piece are one piece.
+/// Puts the contents octets of bits in front, whatever is asked of them. Bits in one piece are one piece.
 fn put_plain_bits(tape: &[Item<'_>], at: usize, buf: &mut DerBuffer) -> Result<usize, Fault>
     requires { at ≤ length tape.now }
     ensures { Writes IsPlainBits tape.now at buf.old buf.new result }
@@ -251,7 +251,7 @@ fn is_trimmed(content: &[u8]) -> bool
     }
 }
 
-/// PutsWord the contents octets of bits in front. Where bits are named, the last one is set (X.680 22.7).
+/// Puts the contents octets of bits in front. Where bits are named, the last one is set (X.680 22.7).
 pub(crate) fn put_bits(
     named: bool,
     tape: &[Item<'_>],

@@ -26,7 +26,7 @@ fn truth_octet(value: bool) -> u8
     if value { 255 } else { 0 }
 }
 
-/// PutsWord the contents octets of a truth value in front.
+/// Puts the contents octets of a truth value in front.
 pub(crate) fn put_boolean(tape: &[Item<'_>], at: usize, buf: &mut DerBuffer) -> Result<usize, Fault>
     requires { at ≤ length tape.now }
     ensures { (nodes : List Node) (depth : ℕ) →
@@ -38,7 +38,7 @@ pub(crate) fn put_boolean(tape: &[Item<'_>], at: usize, buf: &mut DerBuffer) -> 
     }
 }
 
-/// PutsWord no octets in front: NULL has none.
+/// Puts no octets in front: NULL has none.
 pub(crate) fn put_null(tape: &[Item<'_>], at: usize, buf: &mut DerBuffer) -> Result<usize, Fault>
     requires { at ≤ length tape.now }
     ensures { (nodes : List Node) (depth : ℕ) →
@@ -81,7 +81,7 @@ fn shortest_integer(octets: &[u8]) -> &[u8]
     rest
 }
 
-/// PutsWord the contents octets of an integer in front.
+/// Puts the contents octets of an integer in front.
 pub(crate) fn put_integer(tape: &[Item<'_>], at: usize, buf: &mut DerBuffer) -> Result<usize, Fault>
     requires { at ≤ length tape.now }
     ensures { (nodes : List Node) (depth : ℕ) →
@@ -107,7 +107,7 @@ fn primitive_head() -> Head
     }
 }
 
-/// PutsWord the contents octets of a number in front that is listed.
+/// Puts the contents octets of a number in front that is listed.
 pub(crate) fn put_enumerated(
     numbers: &[i128],
     extensible: bool,
@@ -131,7 +131,7 @@ pub(crate) fn put_enumerated(
     }
 }
 
-/// PutsWord the contents octets of an identifier in front, which is relative or is not.
+/// Puts the contents octets of an identifier in front, which is relative or is not.
 pub(crate) fn put_identifier(
     relative: bool,
     tape: &[Item<'_>],

@@ -35,7 +35,7 @@ pub(crate) fn pieces_start(tape: &[Item<'_>], count: usize, end: usize) -> Optio
     }
 }
 
-/// PutsWord the octets of the pieces between two places in front, the last one first.
+/// Puts the octets of the pieces between two places in front, the last one first.
 fn put_pieces(
     sort: StringSort,
     tape: &[Item<'_>],
@@ -61,7 +61,7 @@ fn put_pieces(
     Ok(())
 }
 
-/// PutsWord the octets of a string in so many pieces in front, which end at a place.
+/// Puts the octets of a string in so many pieces in front, which end at a place.
 fn put_in_pieces(
     sort: StringSort,
     count: usize,
@@ -84,7 +84,7 @@ fn put_in_pieces(
     }
 }
 
-/// PutsWord the octets of a string in front, whatever is asked of them.
+/// Puts the octets of a string in front, whatever is asked of them.
 fn put_string(
     sort: StringSort,
     tape: &[Item<'_>],
@@ -103,7 +103,7 @@ fn put_string(
     }
 }
 
-/// PutsWord octets in front.
+/// Puts octets in front.
 pub(crate) fn put_octets(tape: &[Item<'_>], at: usize, buf: &mut DerBuffer) -> Result<usize, Fault>
     requires { at ≤ length tape.now }
     ensures { (nodes : List Node) (depth : ℕ) →
@@ -112,7 +112,7 @@ pub(crate) fn put_octets(tape: &[Item<'_>], at: usize, buf: &mut DerBuffer) -> R
     put_string(StringSort::Octets, tape, at, buf)
 }
 
-/// PutsWord characters in front.
+/// Puts characters in front.
 pub(crate) fn put_text(
     kind: TextKind,
     tape: &[Item<'_>],
@@ -135,7 +135,7 @@ pub(crate) fn put_text(
     }
 }
 
-/// PutsWord the text of a time in front.
+/// Puts the text of a time in front.
 pub(crate) fn put_time(
     kind: TimeKind,
     tape: &[Item<'_>],

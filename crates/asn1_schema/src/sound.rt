@@ -445,8 +445,8 @@ pub fn why_unsound(table: &[Node]) -> Option<Unsound>
 
 /// Whether a table is sound.
 ///
-/// Fields that may be left out are told from what may follow them, by class and number: up to the next field that is
-/// required, and unknown elements behind an extension mark. Arms are told from one another, and a choice has the tags of
+/// Fields that may be left out are told from what may follow them, by class and number. That is each field up to the
+/// next one that is required, and unknown elements behind an extension mark. Arms are told from one another, and a choice has the tags of
 /// its arms. All but a choice, bounds and elements of any type have one tag. A choice and bounds stand behind the types
 /// that they lead to, so none leads to itself. Classes are below 4. A place at which there is no type tells nothing:
 /// what leads there has no value.
