@@ -11,8 +11,8 @@ use Rattle.asn1_engine.specs.declared.trees.Options.{Options}
 use Rattle.asn1_engine.specs.Findings.{AreElements}
 use Rattle.asn1_engine.specs.Heads.{is_mostly_constructed}
 
--- The octets of a string: the contents octets of an OCTET STRING, or those of a BIT STRING without unused bits behind
--- their count (X.690 8.6.2, 8.7). The number is that of the octets before them.
+-- The octets of a string (X.690 8.6.2, 8.7). They are the contents octets of an OCTET STRING, or those of a BIT STRING
+-- without unused bits behind their count. The number is that of the octets before them.
 abbrev pub IsHeld : Line → ℕ → List ℕ → Type 0
 IsHeld line zero octets = (line.constructed ≡ false) × (line.class ≡ Universal) × (line.number ≡ 4) ×
     (line.content.now ≡ octets)

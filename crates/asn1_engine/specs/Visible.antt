@@ -5,14 +5,14 @@ use Rattle.std.specs.Prelude.{ℕ, ◌<◌, ◌≤◌, ◌⊎◌, Bool, false, n
 abbrev pub IsOutside : ℕ → ℕ → ℕ → Type 0
 IsOutside first last n = (n < first) ⊎ (last < n)
 
--- No control character (0 to 31, 127 to 159), and none that turns the direction of writing (U+061C, U+200E and U+200F,
--- U+202A to U+202E, U+2066 to U+2069).
+-- No control character (0 to 31, 127 to 159), and none that turns the direction of writing. Those are U+061C, U+200E
+-- and U+200F, U+202A to U+202E, U+2066 to U+2069.
 abbrev pub MayBeShown : ℕ → Type 0
 MayBeShown n = (32 ≤ n) × IsOutside 127 159 n × IsOutside 1564 1564 n × IsOutside 8206 8207 n × IsOutside 8234 8238 n ×
     IsOutside 8294 8297 n
 
--- Numbers of characters from the first to the last, that are shown by their number: those above, and others that are not
--- seen, such as spaces of other widths, marks of joining, and all that stands behind plane 13.
+-- Numbers of characters from the first to the last, that are shown by their number. They are those above, and others
+-- that are not seen: spaces of other widths, marks of joining, and all that stands behind plane 13.
 abbrev pub hidden : List (ℕ × ℕ)
 hidden = (0, 31) ∷ (127, 160) ∷ (173, 173) ∷ (1564, 1564) ∷ (6158, 6158) ∷ (8203, 8207) ∷ (8232, 8239) ∷ (8287, 8303) ∷
     (65279, 65279) ∷ (65520, 65535) ∷ (917504, 1114111) ∷ []

@@ -151,8 +151,8 @@ fn write_further<W: Write>(
     Ok(())
 }
 
-/// Writes a line for each element, by BER, behind an offset that has not what DER asks of it alone, and for the first
-/// octet that begins no element.
+/// Writes a line for each element, by BER, behind an offset that has not what DER asks of it alone. The first octet
+/// that begins no element has a line too.
 fn write_others<W: Write>(
     alloc: Global,
     name: &str,
@@ -184,9 +184,9 @@ fn write_others<W: Write>(
     }
 }
 
-/// Writes a line for each element, by BER, that has not what DER asks of it alone, and for the first octet that begins
-/// no element; or that the octets are strict DER. The first of these lines is exact as that of `check`, and the others
-/// are not.
+/// Writes a line for each element, by BER, that has not what DER asks of it alone. The first octet that begins no
+/// element has a line too. Where there is none, the line says that the octets are strict DER. The first of these lines
+/// is exact as that of `check`, and the others are not.
 pub fn check_all<W: Write>(
     alloc: Global,
     name: &str,

@@ -42,8 +42,8 @@ fn item_or_end<'a, T: Drop, E: From<Error>>(
 
 /// Takes the next item of a walk off the front of the octets that are left, and answers it.
 ///
-/// `None` where no octets are left, and there alone. A refusal ends the walk, so nothing is left behind it: that of the
-/// reader; `Error::Incomplete` where the item lacks octets; `InvalidLength` where the reader takes no octet.
+/// `None` where no octets are left, and there alone. A refusal ends the walk, so nothing is left behind it. It is
+/// that of the reader, `Error::Incomplete` where the item lacks octets, or `InvalidLength` where the reader takes none.
 #[inline(always)]
 pub fn next_item<'a, T, E, R>(alloc: Global, left: &mut &'a [u8]) -> Option<Result<T, E>>
 where

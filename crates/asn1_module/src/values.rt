@@ -94,7 +94,7 @@ impl<'s, 't> Texts<'s, 't> {
     }
 
     /// The numbers of an enumeration. Where none is written, it is the least that is not written for another one (X.680
-    /// 20.3), and behind the extension mark more than those before (20.5).
+    /// 20.3). Behind the extension mark it is more than those before (20.5).
     pub(crate) fn listed_numbers(
         self,
         alloc: Global,

@@ -39,7 +39,8 @@ AnyGives ElementOf FaultOf refusal input (Ok x) = BeginsWithAny ElementOf input 
 AnyGives ElementOf FaultOf refusal input (Err r) = Refused FaultOf refusal input r
 
 -- the conversion to an element is the element: its header, with the identifier octets that it keeps, and its contents
--- octets where they lie in memory is not compared, so an element that is made anew of the same header and octets is it
+-- octets. Where they lie in memory is not compared, so an element that is made anew of the same header and octets is
+-- it.
 abbrev pub IsTheElement : Any → Result Any Error → Type 0
 IsTheElement any (Ok same) = (same.header ≡ any.header) × (same.content.now ≡ any.content.now)
 IsTheElement any (Err e) = ⊥

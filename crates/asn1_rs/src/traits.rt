@@ -139,8 +139,8 @@ pub trait CheckDerConstraints {
 pub trait DerAutoDerive {}
 
 /// The answer, with a refusal made into one of another error type.
-// `answer.map_err(Err::convert)` is refused in its place: "passes a function whose result names a lifetime or a type
-// parameter that neither what it captures nor its arguments name". The smallest input is
+// `answer.map_err(Err::convert)` is refused in its place. The checker's words are "passes a function whose result names
+// a lifetime or a type parameter that neither what it captures nor its arguments name". The smallest input is
 // `fn f<T, E: From<Error>>(a: Result<T, Err<Error>>) -> Result<T, Err<E>> { a.map_err(Err::convert) }`. Where a closure
 // is called behind the match, the match stays: with this function it is not proved that the closure may be called.
 #[inline(always)]

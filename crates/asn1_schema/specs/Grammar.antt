@@ -76,8 +76,8 @@ IsUniversal number id = (id.class ≡ 0) × (id.number ≡ number)
 
 -- Strings.
 
--- What strings of a type are made of: the tag of their pieces, what contents octets say, and what each piece but the
--- last one is.
+-- What strings of a type are made of: the tag of their pieces, what contents octets say, what each piece but the last
+-- one is.
 pub record StringOf (A : Type 0) : Type 1 where
   pub number : ℕ
   pub Content : List ℕ → List A → Type 0
@@ -134,8 +134,8 @@ abbrev pub trimmed : List Bool → List Bool
 trimmed [] = []
 trimmed (b ∷ bs) = in_front_of b (trimmed bs)
 
--- The octets are characters of the type (8.23; X.680 41). Those of the types whose sets are registers (X.680 41.1: Teletex,
--- Videotex, Graphic and General strings, and ObjectDescriptor) are not judged.
+-- The octets are characters of the type (8.23; X.680 41). Those of the types whose sets are registers (X.680 41.1:
+-- Teletex, Videotex, Graphic and General strings, and ObjectDescriptor) are not judged.
 abbrev pub IsText : TextKind → List ℕ → Type 0
 IsText texts.Utf8 o = IsUtf8 o
 IsText texts.Numeric o = AllIn is_numeric o

@@ -17,7 +17,7 @@ BeginsBadly octets requirement = ((octets ≢ []) × ((fault : Fault) × DerElem
     ((word : List ℕ) × (rest : List ℕ) × (parts : Parts) × (octets ≡ word ++ rest) × IsDerElement word parts ×
     MissesOf requirement parts)
 
--- The first element that is none, or does not meet a requirement, stands at the offset: all before it is strict, and
+-- The first element that is none, or does not meet a requirement, stands at the offset. All before it is strict, and
 -- the elements that it stands in have what DER asks of their tags.
 pub data Departs : ℕ → List ℕ → Departure → Type 0 where
   here : (offset : ℕ) (octets : List ℕ) (departure : Departure) → departure.offset ≡ offset →
@@ -37,7 +37,7 @@ LeftDeparts [] offset view departure = Departs offset view departure
 LeftDeparts (tail ∷ tails) offset view departure = Departs offset view departure ⊎
     (StrictRow view × LeftDeparts tails (offset + length view) tail.now departure)
 
--- The octets are not one element and no more: no element begins them; or that element departs; or it is strict, and
+-- The octets are not one element and no more. No element begins them, or that element departs, or it is strict and
 -- octets stand behind it.
 abbrev pub DepartsFromDer : List ℕ → Departure → Type 0
 DepartsFromDer octets departure = ((departure.offset ≡ 0) × ((fault : Fault) × DerElementFault octets fault ×

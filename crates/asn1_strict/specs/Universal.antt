@@ -14,8 +14,8 @@ use Rattle.x690.specs.Times.{IsStrictUtcText, IsStrictGeneralizedText}
 abbrev pub IsStrictBoolean : List ℕ → Type 0
 IsStrictBoolean content = (content ≡ 0 ∷ []) ⊎ (content ≡ 255 ∷ [])
 
--- No bits, with a count of 0; or a count of at most 7 and some octets, the last of which ends in so many zeros (8.6.2,
--- 11.2.1).
+-- No bits, with a count of 0 (8.6.2). Or a count of at most 7 and some octets, the last of which ends in so many zeros
+-- (11.2.1).
 abbrev pub IsStrictBits : List ℕ → Type 0
 IsStrictBits content = (content ≡ 0 ∷ []) ⊎ ((2 ≤ length content) × (slice_index content 0 < 8) ×
     (slice_index content (length content - 1) % 2 ^ slice_index content 0 ≡ 0))

@@ -27,8 +27,8 @@ pub enum Requirement {
     Boolean,
     /// An INTEGER or an ENUMERATED has some octets, and the fewest (8.3.2).
     ShortestInteger,
-    /// The count of unused bits of a BIT STRING is at most 7, and 0 where there are no bits; unused bits are 0
-    /// (8.6.2, 11.2).
+    /// The count of unused bits of a BIT STRING is at most 7, and 0 where there are no bits (8.6.2). Unused bits are 0
+    /// (11.2).
     UnusedBits,
     /// A NULL has no contents octets (8.8.2).
     Null,

@@ -24,8 +24,8 @@ abbrev pub end_width : Bool → ℕ
 end_width false = 0
 end_width true = 2
 
--- How the walk over a row comes out: at its end, with the offset behind it and the rest; or at the first octet that
--- begins no element, with the fault.
+-- How the walk over a row comes out. It ends with the row, with the offset behind it and the rest, or at the first
+-- octet that begins no element, with the fault.
 pub data Outcome : Type 0 where
   ended : (offset : ℕ) → (rest : List ℕ) → Outcome
   refused : (offset : ℕ) → (fault : Fault) → Outcome
@@ -40,8 +40,8 @@ pub record Tells (marked : Bool) (depth offset : ℕ) (octets : List ℕ) (line 
   pub offset_is : line.offset ≡ offset
   pub header_len_is : line.header_len ≡ length header
 
--- Where the contents of a header of this form are walked: how they end, their octets (in the indefinite form all that
--- follows), and what stands behind these.
+-- Where the contents of a header of this form are walked: how they end, their octets, and what stands behind these. In
+-- the indefinite form the octets are all that follows.
 abbrev pub Opens : LengthForm → List ℕ → Bool → List ℕ → List ℕ → Type 0
 Opens (definite n) after marked content tail = (marked ≡ false) × (length content ≡ n) × (after ≡ content ++ tail)
 Opens indefinite after marked content tail = (marked ≡ true) × (content ≡ after) × (tail ≡ [])
@@ -50,7 +50,7 @@ Opens indefinite after marked content tail = (marked ≡ true) × (content ≡ a
 abbrev pub NoElement : List ℕ → Fault → Type 0
 NoElement octets fault = HeaderFault ber_rule octets fault ⊎ IsCutContent ber_rule octets fault
 
--- The lines of the elements of a row, in their order: of each element before those of its contents, all of them up to
+-- The lines of the elements of a row, in their order: of each element before those of its contents. They are all up to
 -- the end or to the first octet that begins none.
 pub data Row : Bool → ℕ → ℕ → List ℕ → List Line → Outcome → Type 0 where
   at_end : (marked : Bool) (depth offset : ℕ) (octets rest : List ℕ) → AtEnd marked octets rest →

@@ -29,8 +29,8 @@ abbrev pub marked_of : List Frame → Bool
 marked_of [] = false
 marked_of (frame ∷ frames) = is_marked frame
 
--- The lines that are still to come, and how the walk comes out, where these contents are open (the innermost first): the
--- lines of the innermost row, and behind its end those of the rows around it.
+-- The lines that are still to come, and how the walk comes out, where these contents are open (the innermost first).
+-- They are the lines of the innermost row, and behind its end those of the rows around it.
 unfoldable pub Goes : List Frame → ℕ → List ℕ → List Line → Outcome → Type 0
 Goes [] offset view lines outcome = Row false 0 offset view lines outcome
 Goes (frame ∷ frames) offset view lines outcome =

@@ -28,8 +28,8 @@ BorrowsOctets x = IsBorrowedSlice x.octets
 abbrev pub AreStrict : List ℕ → Type 0
 AreStrict octets = IsOctets octets × IsShortestInteger octets
 
--- any octets as they stand, of an element that is primitive or constructed
--- the value is the octets, not their number: they are what is read and written
+-- Any octets as they stand, of an element that is primitive or constructed.
+-- The value is the octets, not their number: they are what is read and written.
 abbrev pub any_integer_leaf : Leaf Integer
 any_integer_leaf = record {
   number = integer_number;

@@ -78,8 +78,8 @@ universal_writing number octets is_refused refusal =
       refuses_first = λ x. OwnFirst (is_refused x) (refusal x);
     }
 
--- lists of items that are written as `item` says: a constructed element with this number, of the items in their order
--- one takes no memory of its own that it can't do without: where its buffer can't grow, it is written forward
+-- lists of items that are written as `item` says: a constructed element with this number, of the items in their order.
+-- One takes no memory of its own that it can't do without: where its buffer can't grow, it is written forward.
 abbrev pub list_writing : {S W : Type 0} → ℕ → (W → List S) → Writing S → Writing W
 list_writing number items item = record {
   tells = λ v. All item.tells (items v);
@@ -95,8 +95,8 @@ list_writing number items item = record {
   write_allocates = false;
 }
 
--- sets of such items: all are written into a vector, from which their encodings are joined in ascending order
--- one of a single item takes no vector; these members are of the type, and allow the refusal of each set
+-- sets of such items: all are written into a vector, from which their encodings are joined in ascending order.
+-- One of a single item takes no vector. These members are of the type, and allow the refusal of each set.
 abbrev pub set_writing : {S W : Type 0} → (W → List S) → Writing S → Writing W
 set_writing items item = record {
   tells = λ v. All item.tells (items v);
