@@ -53,3 +53,4 @@ pub mod DigitsJoined
 pub mod WrittenBits
 pub mod WrittenTapes
 pub mod MembersCounted
+pub mod StrictWords

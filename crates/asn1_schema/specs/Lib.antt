@@ -18,3 +18,4 @@ pub mod Moments
 pub mod Owned
 pub mod Writing
 pub mod Encoding
+pub mod Differing

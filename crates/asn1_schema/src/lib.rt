@@ -42,6 +42,7 @@ pub mod same;
 pub mod schema;
 mod sizes;
 pub mod sound;
+pub mod strictness;
 mod tagged;
 pub mod tape;
 mod texts;

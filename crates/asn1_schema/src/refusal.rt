@@ -6,29 +6,40 @@ ghost use Rattle.asn1_schema.specs.declared.refusal.Reason.TheVariants as reason
 use crate::fault::Fault;
 
 /// Why octets are refused.
-#[derive(Debug, Clone, Copy, PartialEq, Eq)]
+#[derive(Debug, Clone, Copy, PartialEq, Eq, thiserror::Error)]
 pub enum Reason {
     /// Nothing was refused.
+    #[error("nothing is refused")]
     Nothing,
     /// Elements nest deeper than the caller allows.
+    #[error("elements nest too deep")]
     Depth,
     /// The table has no such type.
+    #[error("the table has no such type")]
     MissingType,
     /// No element begins there (X.690 8.1): it is cut, or its header is none by the rules.
+    #[error("no element begins here, or it is cut")]
     Element,
     /// The element has a tag that the type does not have.
+    #[error("the tag is not one of the type")]
     Tag,
     /// The element is primitive where the type asks for a constructed one.
+    #[error("the element is primitive, and the type is constructed")]
     Form,
     /// The contents octets have no value of the type by the rules.
+    #[error("the contents octets have no value of the type")]
     Contents,
     /// The number or the size is out of bounds (X.680 51.4, 51.5).
+    #[error("the number or the size is out of bounds")]
     Bounds,
     /// A field is not there that may not be left out.
+    #[error("a component is missing")]
     MissingField,
     /// The default of a field that is left out is no value of its type: the table is at fault.
+    #[error("the default is no value of its type")]
     Default,
     /// Octets follow where none may.
+    #[error("octets follow where none may")]
     TrailingOctets,
 }
 
