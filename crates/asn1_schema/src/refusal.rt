@@ -4,6 +4,8 @@ ghost use Rattle.asn1_schema.specs.declared.fault.Fault.TheVariants as faults;
 ghost use Rattle.asn1_schema.specs.declared.refusal.Reason.TheVariants as reasons;
 
 use crate::fault::Fault;
+use crate::names::{TypeNames, write_part, write_type};
+use std::fmt;
 
 /// Why octets are refused.
 #[derive(Debug, Clone, Copy, PartialEq, Eq, thiserror::Error)]
@@ -56,7 +58,42 @@ pub struct Refusal {
     pub reason: Reason,
 }
 
+/// A refusal as one line, by the names of a table where it has them.
+#[derive(Debug, Clone, Copy)]
+pub struct RefusalByName<'s, 'n> {
+    /// The refusal.
+    pub refusal: Refusal,
+    /// The names of the types, each at the place of its type. There may be none.
+    pub names: &'s [TypeNames<'n>],
+}
+
+impl fmt::Display for RefusalByName<'_, '_> {
+    fn fmt<W: fmt::Write>(&self, f: &mut fmt::Formatter<W>) -> fmt::Result {
+        let Refusal {
+            octet,
+            of,
+            field,
+            reason,
+        } = self.refusal;
+        write!(f, "octet {octet}, ")?;
+        write_type(f, self.names, of)?;
+        if let Some(field) = field {
+            write!(f, ".")?;
+            write_part(f, self.names.get(of), field)?;
+        }
+        write!(f, ": {reason}")
+    }
+}
+
 impl Refusal {
+    /// The refusal as one line by these names: the octet, the type, the field of it, and the reason.
+    pub fn by_name<'s, 'n>(self, names: &'s [TypeNames<'n>]) -> RefusalByName<'s, 'n> {
+        RefusalByName {
+            refusal: self,
+            names,
+        }
+    }
+
     /// Nothing is refused yet.
     pub fn none() -> Refusal
         ensures { result.octet ≡ 0 }

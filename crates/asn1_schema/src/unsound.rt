@@ -1,6 +1,6 @@
 //! Why a table is not sound, in numbers and in names.
 
-use crate::names::TypeNames;
+use crate::names::{TypeNames, write_part, write_type};
 use crate::schema::TypeTag;
 use std::fmt;
 
@@ -85,38 +85,6 @@ impl fmt::Display for TypeTag {
             class => write!(f, "{number} of class {class}"),
         }
     }
-}
-
-/// Writes the name of a type, or its place where it has none.
-fn write_type<W: fmt::Write>(
-    f: &mut fmt::Formatter<W>,
-    names: &[TypeNames<'_>],
-    of: usize,
-) -> fmt::Result {
-    if let Some(own) = names.get(of) {
-        if !own.name.is_empty() {
-            let name = own.name;
-            return write!(f, "{name}");
-        }
-    }
-    write!(f, "type {of}")
-}
-
-/// Writes the name of a part of a type, or its place where it has none.
-fn write_part<W: fmt::Write>(
-    f: &mut fmt::Formatter<W>,
-    own: Option<&TypeNames<'_>>,
-    part: usize,
-) -> fmt::Result {
-    if let Some(own) = own {
-        for label in &own.labels {
-            if label.number == part as i128 {
-                let name = label.name;
-                return write!(f, "{name}");
-            }
-        }
-    }
-    write!(f, "{part}")
 }
 
 /// Writes two parts of a type, and what they have in common.
