@@ -2,3 +2,4 @@ mod HeadersAndContents
 mod OpenContents
 mod Reading
 mod StrictHeaders
+mod PartsSwapped

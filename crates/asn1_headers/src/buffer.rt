@@ -186,6 +186,25 @@ pub fn keep_last(buf: &mut DerBuffer, count: usize)
     buf.start = buf.start.max(buf.octets.len().saturating_sub(count));
 }
 
+/// Moves the first `count` octets behind the `by` octets that follow them. No octet beyond these moves.
+pub fn move_behind(buf: &mut DerBuffer, count: usize, by: usize)
+    requires { count + by ≤ length buf.old }
+    ensures { (one other rest : List ℕ) → buf.old ≡ one ++ (other ++ rest) →
+        count ≡ length one → by ≡ length other → buf.new ≡ other ++ (one ++ rest) }
+{
+    swap_parts(&mut buf.octets, buf.start, count, by);
+}
+
+/// Swaps two parts that stand at a place: the first has `count` octets, and the second `by`.
+fn swap_parts(octets: &mut [u8], start: usize, count: usize, by: usize)
+    requires { start + (count + by) ≤ length octets.old }
+    ensures kept { length octets.new ≡ length octets.old }
+    ensures swapped { (one other rest : List ℕ) → drop start octets.old ≡ one ++ (other ++ rest) →
+        count ≡ length one → by ≡ length other → drop start octets.new ≡ other ++ (one ++ rest) }
+{
+    octets[start..start + (count + by)].rotate_left(count);
+}
+
 /// Puts octets in front, and answers their number.
 #[inline(always)]
 pub fn prepend_octets(octets: &[u8], buf: &mut DerBuffer) -> SerializeResult<usize>
