@@ -10,7 +10,7 @@ use Rattle.asn1_schema.specs.Grammar.{Takes}
 use Rattle.asn1_schema.specs.Each.{Each}
 use Rattle.asn1_schema.specs.Rules.{IsTagBefore, AscendBehind, TagsAscend, strict}
 use Rattle.asn1_schema.specs.Writing.{HasRoom, Settles}
-use Rattle.asn1_schema.proofs.TakesParts.{tags_onward, not_each_before, each_left, all_behind}
+use Rattle.asn1_schema.proofs.TakesParts.{each_append, tags_onward, not_each_before, each_left, all_behind}
 use Rattle.asn1_schema.proofs.OneValue.{same_front}
 use Rattle.asn1_schema.proofs.Lawful.{strict_lawful}
 use Rattle.asn1_schema.proofs.TakenSets.{front_joined, none_joined}
@@ -53,10 +53,6 @@ ascend_put last [] [] e a l c n = (l, tt)
 ascend_put last [] (x ∷ back) e a l c n = (l, (n x back refl, a.1))
 ascend_put last (x ∷ front) back e a l c n = (a.0, ascend_put (Some x.id) front back e a.1 c.0 c.1 n)
 
-append_each : (P : Parts → Type 0) (xs ys : List Parts) → Each P xs → Each P ys → Each P (xs ++ ys)
-append_each P [] ys a b = b
-append_each P (x ∷ xs) ys a b = (a.0, append_each P xs ys a.1 b)
-
 pub joined_append : (one other : List ℕ) (front back : List Parts) → IsJoined IsDerElement one front →
     IsJoined IsDerElement other back → IsJoined IsDerElement (one ++ other) (front ++ back)
 joined_append one other [] back i j =
@@ -90,7 +86,7 @@ room_further e es octets rest tail p s f b =
       back = u.0;
       passed = s.passed ++ f.word;
       is = s.is ∙ (ap (λ (z : List Parts). s.front ++ z) u.1 ∙ sym (append_assoc s.front (p ∷ []) u.0));
-      less = append_each (Before e) s.front (p ∷ []) s.less (b, tt);
+      less = each_append (Before e) s.front (p ∷ []) s.less (b, tt);
       joins = joined_append s.passed f.word s.front (p ∷ []) s.joins (f.word, [], f.fits, sym (append-nil f.word), refl);
       left = u.2;
       octets_are = s.octets_are ∙ (ap (λ (z : List ℕ). s.passed ++ z) f.is ∙ sym (append_assoc s.passed f.word tail));

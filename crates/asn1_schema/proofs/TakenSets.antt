@@ -32,7 +32,7 @@ use Rattle.asn1_schema.specs.Members.{AreElements, MayFollow, BehindOf, AreOrder
 use Rattle.asn1_schema.proofs.Depths.{unless}
 use Rattle.asn1_schema.proofs.Tags.{first_holds, second_holds, apart_at}
 use Rattle.asn1_schema.proofs.Strings.{AreLawfulRules}
-use Rattle.asn1_schema.proofs.TakesParts.{each_left, elsewhere, one_taken}
+use Rattle.asn1_schema.proofs.TakesParts.{each_append, each_map, each_left, elsewhere, one_taken}
 use Rattle.asn1_schema.proofs.OneValue.{HasItsTag, same_front, some_octets, left_rest, member_there, none_alike}
 use Rattle.asn1_schema.proofs.Taken.{lawful_of}
 use Rattle.asn1_schema.proofs.TakenRows.{SoFar, nothing_yet, ended, join_none, further, refused, may_stand, may_not}
@@ -140,10 +140,6 @@ pub record FirstSoFar (e : Coding) (table : List Node) (t : ℕ) (rest : List �
 pub first_begun : (e : Coding) (table : List Node) (t : ℕ) (octets : List ℕ) (es : List Parts) → AreElements e octets es →
     FirstSoFar e table t octets es
 first_begun e table t octets es j = record { done = []; left = es; is = refl; lacking = tt; joins = j }
-
-each_append : (P : Parts → Type 0) (xs ys : List Parts) → Each P xs → Each P ys → Each P (xs ++ ys)
-each_append P [] ys a b = b
-each_append P (x ∷ xs) ys a b = (a.0, each_append P xs ys a.1 b)
 
 pub first_further : (e : Coding) (table : List Node) (t : ℕ) (rest tail content : List ℕ) (head : Head) (es : List Parts) →
     FirstSoFar e table t rest es → Front (rules_of e).ElementOf rest (parts_of head content) tail →
@@ -256,10 +252,6 @@ kept_alike q r (e ∷ es) a =
     (λ i. if a.0 i then e ∷ filter q es else filter q es)
     ∙ ap (λ (z : List Parts). if r e then e ∷ z else z) (kept_alike q r es a.1)
 
-each_of : (P Q : Parts → Type 0) → ((p : Parts) → P p → Q p) → (es : List Parts) → Each P es → Each Q es
-each_of P Q f [] a = tt
-each_of P Q f (e ∷ es) a = (f e a.0, each_of P Q f es a.1)
-
 module _ (table : List Node) where
   -- a tag of one more field
   more_fields : (done : List Field) (f : Field) (id : Identifier) →
@@ -279,7 +271,7 @@ module _ (table : List Node) where
       others_than table (done ++ f ∷ []) es ≡ others_than table done es
   others_lacking done f es a =
       kept_alike (λ p. not (is_of_field table (done ++ f ∷ []) p.id)) (λ p. not (is_of_field table done p.id)) es
-      (each_of (Lacks table f.of)
+      (each_map (Lacks table f.of)
       (λ p. not (is_of_field table (done ++ f ∷ []) p.id) ≡ not (is_of_field table done p.id))
       (λ p n. ap not (more_fields done f p.id ∙ or_nothing (is_of_field table done p.id) (has_tag_at table p.id f.of)
       (none_at (has_tag_at table p.id f.of) (λ h. n (tag_at table p.id f.of h))))) es a)

@@ -12,6 +12,10 @@ pub each_map : (P Q : Parts → Type 0) → ((p : Parts) → P p → Q p) → (e
 each_map P Q f [] a = tt
 each_map P Q f (e ∷ es) a = (f e a.0, each_map P Q f es a.1)
 
+pub each_append : (P : Parts → Type 0) (xs ys : List Parts) → Each P xs → Each P ys → Each P (xs ++ ys)
+each_append P [] ys a b = b
+each_append P (x ∷ xs) ys a b = (a.0, each_append P xs ys a.1 b)
+
 put_in : (P : Parts → Type 0) (front back : List Parts) (e : Parts) → P e → Each P (front ++ back) →
     Each P (front ++ e ∷ back)
 put_in P [] back e h a = (h, a)

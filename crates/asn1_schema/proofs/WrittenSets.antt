@@ -2,6 +2,7 @@
 use Rattle.std.proofs.Common.{◌≡◌, ◌∙◌, ap, sym, subst, refl, ℕ, suc, ◌+◌, ◌<◌, ◌≤◌, inl, inr, Bool, true, false, List, [], ◌∷◌, ◌++◌, append_assoc, append-nil, length, length-append, arith}
 use Rattle.std.specs.Prelude.{◌⊎◌, Option, Some, None, Result, Ok, Err, IfSome, IfNone}
 use Rattle.std.specs.List.{concat}
+use Rattle.std.proofs.lemmas.List.{nil_from_length}
 use Rattle.x690.specs.Octets.{IsOctets}
 use Rattle.x690.specs.Rules.{der_rule}
 use Rattle.x690.specs.Elements.{Parts, IsDerElement}
@@ -49,7 +50,7 @@ left_row S presences.Optional (absent vs) F G g a = g vs a
 left_row S presences.Optional (more v vs) F G g a = absurd a
 left_row S (presences.Default d) none F G g a = absurd a
 left_row S (presences.Default d) (absent vs) F G g a = absurd a
-left_row S (presences.Default d) (more v vs) F G g a = let r = g vs a.1 in (r.0, r.1, a.0, r.2)
+left_row S (presences.Default d) (more v vs) F G g a = let r = g vs a.1 in (r.0, r.1, (a.0, r.2))
 
 -- The elements of a set in the order of its fields are those of a sequence.
 module _ (table : List Node) (depth : ℕ) (unknown : Option ℕ) where
@@ -317,14 +318,14 @@ module _ (table : List Node) (depth : ℕ) (unknown : Option ℕ) where
 
     -- one more is written
     pub member_written : result ≡ true → SetSoFar count fields others tape at place old last
-    member_written yes =
+    member_written has =
         elim (placed table sound depth f.of f.presence row.kept (Members s.done row.holds.0.elements)
         row.holds.0.members (before tape rest) (before tape place) mid new w.1) [
           | inl a ↦
               let word = a.0 in
               let set = row.holds.0 in
               let size = row.holds.1 in
-              let t = subst (Settles word.holds.parts set.elements old last) yes
+              let t = subst (Settles word.holds.parts set.elements old last) has
               (settles word.word word.holds.parts word.holds.element word.put) in
               record {
                 done = f ∷ s.done;
@@ -369,7 +370,7 @@ module _ (table : List Node) (depth : ℕ) (unknown : Option ℕ) where
 
     -- an element has no place
     no_place : result ≡ false → NoRowAtEnd (AreCountedSet table depth unknown count fields) (before tape at)
-    no_place no octets kept front holds e =
+    no_place lacks octets kept front holds e =
         elim (placed table sound depth f.of f.presence row.kept (Members s.done row.holds.0.elements)
         row.holds.0.members (before tape rest) (before tape place) mid new w.1) [
           | inl a ↦
@@ -390,39 +391,35 @@ module _ (table : List Node) (depth : ℕ) (unknown : Option ℕ) where
                     (values_of row.kept) (values_of row.kept) refl k.1
                     (each_joined IsDerElement IsDefinite (λ x p d. d.counted) row.octets set.elements set.joins)
                     (ascend_left None m.0 b.0 b.1 b.2 m.2) set.order b.5 set.members in
-                    let t = subst (Settles word.holds.parts set.elements old last) no
+                    let t = subst (Settles word.holds.parts set.elements old last) lacks
                     (settles word.word word.holds.parts word.holds.element word.put) in
                     t m.0 (subst (λ (z : List Parts). Takes m.0 word.holds.parts z) same
                     (subst (λ (z : Parts). Takes m.0 z b.1) first b.2)) m.2
                 | inr b ↦ not_left (Sub f.of) f.presence (Members s.done m.0) (value_of word.kept) (values_of row.kept)
                     (more (value_of word.kept) (values_of row.kept)) refl a.1 b
               ]
-          | inr a ↦ let yes = (nothing (ap length a.5 ∙ sym behind_is)).0 in absurd (cc)
+          | inr a ↦ let has = (nothing (ap length a.5 ∙ sym behind_is)).0 in absurd (cc)
         ]
 
     grew : result ≡ false → (result ≡ false → last ≡ new) → Grew old last
-    grew no stays =
+    grew lacks stays =
         elim (placed table sound depth f.of f.presence row.kept (Members s.done row.holds.0.elements)
         row.holds.0.members (before tape rest) (before tape place) mid new w.1) [
-          | inl a ↦ subst (Grew old) (sym (stays no))
+          | inl a ↦ subst (Grew old) (sym (stays lacks))
               (grew_on old mid new (row.octets, row.put) (a.0.word, a.0.put))
-          | inr a ↦ subst (Grew old) (sym (stays no)) (row.octets, a.5 ∙ row.put)
+          | inr a ↦ subst (Grew old) (sym (stays lacks)) (row.octets, a.5 ∙ row.put)
         ]
 
     pub set_unsettled : result ≡ false → (result ≡ false → last ≡ new) →
         WritesRow (AreCountedSet table depth unknown count fields) tape at old last (Err faults.Refused)
-    set_unsettled no stays = (λ is. no_place no, grew no stays)
-
-  none_left : (xs : List Field) → length xs ≡ 0 → xs ≡ []
-  none_left [] l = refl
-  none_left (x ∷ xs) l = absurd (omega (arith, l))
+    set_unsettled lacks stays = (λ is. no_place lacks, grew lacks stays)
 
   -- all fields are written
   pub set_done : (count : ℕ) (fields left : List Field) (tape : List Item) (at rest : ℕ) (old new : List ℕ) →
       SetSoFar count fields left tape at rest old new → length left ≡ 0 →
       WritesRow (AreCountedSet table depth unknown count fields) tape at old new (Ok rest)
   set_done count fields left tape at rest old new s l =
-      let e : fields ≡ s.done = s.parts ∙ ap (λ (z : List Field). z ++ s.done) (none_left left l) in (
+      let e : fields ≡ s.done = s.parts ∙ ap (λ (z : List Field). z ++ s.done) (nil_from_length left l) in (
         s.within,
         subst (λ (z : List Field). PutsFields (AreCountedSet table depth unknown count z) (before tape at) (before tape rest)
             old new) (sym e) s.row,

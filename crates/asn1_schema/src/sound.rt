@@ -463,10 +463,10 @@ pub fn why_unsound(table: &[Node]) -> Option<Unsound>
 /// Whether a table is sound.
 ///
 /// Fields that may be left out are told from what may follow them, by class and number. That is each field up to the
-/// next one that is required, and unknown elements behind an extension mark. All fields and unknown elements of a set are
-/// told from one another. So are arms, and a choice has the tags of its arms. All but a choice, bounds and elements of any type have one tag. A choice and bounds stand behind the types
-/// that they lead to, so none leads to itself. Classes are below 4. A place at which there is no type tells nothing:
-/// what leads there has no value.
+/// next one that is required, and unknown elements behind an extension mark. All fields and unknown elements of a set
+/// are told from one another. So are arms, and a choice has the tags of its arms. All but a choice, bounds and elements
+/// of any type have one tag. A choice and bounds stand behind the types that they lead to, so none leads to itself.
+/// Classes are below 4. A place at which there is no type tells nothing: what leads there has no value.
 pub fn is_sound(table: &[Node]) -> bool
     ensures { result ≡ spec.is_sound table.now }
 {

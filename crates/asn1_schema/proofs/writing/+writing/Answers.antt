@@ -1,6 +1,5 @@
 use Rattle.std.proofs.Common.{rules, ◌≡◌, sym, subst, refl, ℕ, ◌+◌, ◌-◌, ◌<◌, ◌≤◌, List, [], Some, true, arith, slice_get, length}
 use Rattle.std.specs.Prelude.{Option, ℤ}
-use Rattle.std.proofs.lemmas.Bool.{not-true, not-false}
 use Rattle.asn1_schema.specs.declared.schema.Field.{Field}
 use Rattle.asn1_schema.specs.declared.schema.Kind.{Kind}
 use Rattle.asn1_schema.specs.Grammar.{Word, Body, AreFields, AreSet, AreItems}
@@ -374,7 +373,7 @@ put_members-returns-then-not-settle t c = set_unsettled c.args.nodes.now c.args.
     c.loop-field.rest c.in-Ok-put_field.place c.args.buf.now c.loop-field.buf c.put_field.new.buf c.settle.new.buf
     c.len-held.result c.len-behind.result c.settle.result c.loop-field.invariant c.in-Some.ensures.cases.0
     c.in-Ok-put_field.ensures c.len-held.ensures c.len-behind.ensures c.settle.ensures.nothing c.settle.ensures.settled
-    (not-true c.settle.result c.if-not-settle.true) c.settle.ensures.stays
+    c.if-not-settle.true c.settle.ensures.stays
 
 pub put_members-loop-field-preserved : goal.put_members-loop-field-preserved
 put_members-loop-field-preserved t c = member_written c.args.nodes.now c.args.depth c.args.unknown c.requires.sound
@@ -382,7 +381,7 @@ put_members-loop-field-preserved t c = member_written c.args.nodes.now c.args.de
     c.loop-field.rest c.in-Ok-put_field.place c.args.buf.now c.loop-field.buf c.put_field.new.buf c.settle.new.buf
     c.len-held.result c.len-behind.result c.settle.result c.loop-field.invariant c.in-Some.ensures.cases.0
     c.in-Ok-put_field.ensures c.len-held.ensures c.len-behind.ensures c.settle.ensures.nothing c.settle.ensures.settled
-    (not-false c.settle.result c.if-not-settle.false)
+    c.if-not-settle.false
 
 pub put_members-returns : goal.put_members-returns
 put_members-returns t c = set_done c.args.nodes.now c.args.depth c.args.unknown c.args.count c.args.fields.now
