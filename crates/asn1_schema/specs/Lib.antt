@@ -13,7 +13,9 @@ pub mod Sizes
 pub mod Sound
 pub mod Tape
 pub mod Values
+pub mod Each
 pub mod Joined
+pub mod Members
 pub mod Moments
 pub mod Owned
 pub mod Writing

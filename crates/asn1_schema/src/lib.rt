@@ -40,6 +40,8 @@ pub mod refusal;
 mod rows;
 pub mod same;
 pub mod schema;
+mod sets;
+mod settling;
 mod sizes;
 pub mod sound;
 pub mod strictness;

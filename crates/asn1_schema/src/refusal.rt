@@ -37,6 +37,10 @@ pub enum Reason {
     /// A field is not there that may not be left out.
     #[error("a component is missing")]
     MissingField,
+    /// The elements of a set do not ascend by their tags (X.690 10.3).
+    Order,
+    /// A field of a set is there more than once.
+    Repeated,
     /// The default of a field that is left out is no value of its type: the table is at fault.
     #[error("the default is no value of its type")]
     Default,
@@ -52,7 +56,7 @@ pub struct Refusal {
     pub octet: usize,
     /// The place of the type in the table.
     pub of: usize,
-    /// The field, by its place in the innermost sequence.
+    /// The field, by its place in the innermost sequence or set.
     pub field: Option<usize>,
     /// Why.
     pub reason: Reason,

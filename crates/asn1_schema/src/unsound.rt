@@ -20,9 +20,11 @@ pub enum TypeFault {
     Class(TypeTag),
     /// The type does not have one tag.
     NotOneTag,
-    /// A field may be left out, and another one that may follow it has a tag in common with it (X.680 25.6).
+    /// A field may be left out, and another one that may follow it has a tag in common with it (X.680 25.6). Or two
+    /// fields of a set have one in common (X.680 27.3).
     Fields(usize, usize, Shared),
-    /// A field may be left out, and the unknown elements that may follow it have a tag in common with it.
+    /// A field may be left out, and the unknown elements that may follow it have a tag in common with it. In a set no
+    /// field may have one.
     Unknown(usize, Shared),
     /// Two arms have a tag in common (X.680 29.3).
     Arms(usize, usize, Shared),
