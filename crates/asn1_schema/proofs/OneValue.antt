@@ -266,8 +266,8 @@ module _ (R : Rules) (lawful : AreLawfulRules R) where
     none_alike unknown f fs told e h es vs a =
         each_map (λ p. has_tag h.node.tags p.id ≡ true → ⊥) (λ p. HasTagAt table f.of p.id → ⊥)
         (λ p n g.
-            let same : g.node ≡ h.node = (let x = g.found in let y = h.found in cc) in
-            n (subst (λ (z : Node). has_tag z.tags p.id ≡ true) same g.tagged)) es
+        let same : g.node ≡ h.node = (let x = g.found in let y = h.found in cc) in
+        n (subst (λ (z : Node). has_tag z.tags p.id ≡ true) same g.tagged)) es
         (no_member h.node.tags unknown fs es vs a
         (subst (λ (z : Option Node). field_told true table unknown z fs ≡ true) h.found
         (first_holds (field_told true table unknown (node_at table f.of) fs) (fields_told true table unknown fs) told)))

@@ -57,9 +57,13 @@ pub joined_append : (one other : List ℕ) (front back : List Parts) → IsJoine
     IsJoined IsDerElement other back → IsJoined IsDerElement (one ++ other) (front ++ back)
 joined_append one other [] back i j =
     subst (λ (z : List ℕ). IsJoined IsDerElement (z ++ other) back) (sym i) j
-joined_append one other (x ∷ front) back i j =
-    (i.0, i.1 ++ other, i.2, ap (λ (z : List ℕ). z ++ other) i.3 ∙ append_assoc i.0 i.1 other,
-    joined_append i.1 other front back i.4 j)
+joined_append one other (x ∷ front) back i j = (
+  i.0,
+  i.1 ++ other,
+  i.2,
+  ap (λ (z : List ℕ). z ++ other) i.3 ∙ append_assoc i.0 i.1 other,
+  joined_append i.1 other front back i.4 j,
+)
 
 -- Elements of less tags were passed.
 pub record RoomSoFar (e : Parts) (es : List Parts) (octets rest : List ℕ) : Type 0 where

@@ -360,9 +360,12 @@ module _ (R : Rules) (lawful : AreLawfulRules R) (table : List Node) (Sub : ℕ 
   the_one p a vs b =
       let c = member_there R lawful (Sub f.of) f.presence Now vs (AreMembers R Sub unknown fs) b in
       let u = one_taken (λ q. HasTagAt table f.of q.id) Now c.0 p c.1 a.others c.4 a.takes (tag f.of c.0 c.2 c.5)
-      a.alone in
-      (c.2, c.3, subst (λ (z : Parts). Sub f.of z c.2) u.0 c.5,
-      subst (λ (z : List Parts). AreMembers R Sub unknown fs z c.3) u.1 c.6)
+      a.alone in (
+        c.2,
+        c.3,
+        subst (λ (z : Parts). Sub f.of z c.2) u.0 c.5,
+        subst (λ (z : List Parts). AreMembers R Sub unknown fs z c.3) u.1 c.6,
+      )
 
   module _ (Whole : Values → Type 0) (old mid new : List Item)
       (s : SoFar (AreMembers R Sub unknown (f ∷ fs) Now) Whole old mid) where
@@ -375,8 +378,14 @@ module _ (R : Rules) (lawful : AreLawfulRules R) (table : List Node) (Sub : ℕ 
         (further (AreMembers R Sub unknown (f ∷ fs) Now) (AreMembers R Sub unknown fs l.others) Whole old mid new
         (kept_more a.puts.kept kept_none) s
         (a.puts.is ∙ ap (λ (z : List Mark). marks mid ++ z) (sym (append-nil (tape_of a.puts.kept))))
-        (λ vs b. inl (a.element, l.others, l.takes, a.puts.holds,
-        may_stand R lawful (Sub f.of) written f.presence (value_of a.puts.kept), b))
+        (λ vs b. inl (
+          a.element,
+          l.others,
+          l.takes,
+          a.puts.holds,
+          may_stand R lawful (Sub f.of) written f.presence (value_of a.puts.kept),
+          b,
+        ))
         down)
       where
         down : (vs : Values) → AreMembers R Sub unknown (f ∷ fs) Now vs → (ws : Values) ×
@@ -504,11 +513,14 @@ module _ (e : Coding) (table : List Node) (depth : ℕ) (fields : List Field) wh
       (parts_of head content ∷ others_than table fields left)) (AreOthers Sub unknown (others_than table fields es)) old new
   other_kept unknown rest tail content head es old new s f is =
       let p = parts_of head content in
-      let u = front_joined (rules_of e) (lawful_of e) rest tail p s.left f s.joins in
-      (u.0, u.2, subst (λ (z : List Parts). SoFar (AreOthers Sub unknown z)
-      (AreOthers Sub unknown (others_than table fields es)) old new)
-      (ap (others_than table fields) u.1
-      ∙ kept_by (λ q. not (is_of_field table fields q.id)) p u.0 (ap not is)) s.so_far)
+      let u = front_joined (rules_of e) (lawful_of e) rest tail p s.left f s.joins in (
+        u.0,
+        u.2,
+        subst (λ (z : List Parts). SoFar (AreOthers Sub unknown z)
+            (AreOthers Sub unknown (others_than table fields es)) old new)
+            (ap (others_than table fields) u.1
+            ∙ kept_by (λ q. not (is_of_field table fields q.id)) p u.0 (ap not is)) s.so_far,
+      )
 
   others_parted : (unknown : Option ℕ) (p : Parts) (es : List Parts) (vs : Values) → AreOthers Sub unknown (p ∷ es) vs →
       (v : Value) × (ws : Values) × Other unknown p v × AreOthers Sub unknown es ws

@@ -45,12 +45,15 @@ two_places : (front back : List Parts) (e : Parts) (first last : List Parts) (h 
 two_places [] back e [] last h s = inl (cc, cc)
 two_places [] back e (x ∷ first) last h s =
     let same : x ≡ e = cc in
-    inr (first ++ last, record {
-      front = [];
-      back = first ++ last;
-      is = ap (λ (z : Parts). z ∷ (first ++ last)) same;
-      rest = refl;
-    })
+    inr (
+      first ++ last,
+      record {
+        front = [];
+        back = first ++ last;
+        is = ap (λ (z : Parts). z ∷ (first ++ last)) same;
+        rest = refl;
+      },
+    )
 two_places (x ∷ front) back e [] last h s =
     let there : last ≡ front ++ e ∷ back = cc in
     inr (front ++ back, record { front = front; back = back; is = there; rest = refl })
@@ -59,12 +62,15 @@ two_places (x ∷ front) back e (y ∷ first) last h s =
     let there : front ++ e ∷ back ≡ first ++ h ∷ last = cc in
     elim (two_places front back e first last h there) [
       | inl u ↦ let others = u.1 in inl (u.0, cc)
-      | inr u ↦ let t = u.1 in inr (y ∷ u.0, record {
-        front = y ∷ t.front;
-        back = t.back;
-        is = ap (λ (z : List Parts). y ∷ z) t.is;
-        rest = ap (λ (z : List Parts). y ∷ z) t.rest;
-      })
+      | inr u ↦ let t = u.1 in inr (
+        y ∷ u.0,
+        record {
+          front = y ∷ t.front;
+          back = t.back;
+          is = ap (λ (z : List Parts). y ∷ z) t.is;
+          rest = ap (λ (z : List Parts). y ∷ z) t.rest;
+        },
+      )
     ]
 
 -- one that is taken out is the other one, or one of the others

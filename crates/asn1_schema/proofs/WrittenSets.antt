@@ -196,12 +196,15 @@ module _ (table : List Node) (depth : ℕ) (unknown : Option ℕ) where
           octets = w.1.octets;
           kept = w.1.kept;
           are_octets = w.1.are_octets;
-          holds = (record {
-                elements = a.elements;
-                joins = joins;
-                members = unknown_others unknown w.1.octets a.elements (values_of w.1.kept) w.1.holds.0 joins;
-                order = a.order;
-              }, w.1.holds.1);
+          holds = (
+            record {
+              elements = a.elements;
+              joins = joins;
+              members = unknown_others unknown w.1.octets a.elements (values_of w.1.kept) w.1.holds.0 joins;
+              order = a.order;
+            },
+            w.1.holds.1,
+          );
           taken = w.1.taken;
           put = w.1.put;
         };
@@ -335,12 +338,15 @@ module _ (table : List Node) (depth : ℕ) (unknown : Option ℕ) where
                   octets = t.1;
                   kept = kept_more word.kept row.kept;
                   are_octets = joined_octets IsDerElement word_octets t.1 t.0 t.4;
-                  holds = (record {
-                        elements = t.0;
-                        joins = t.4;
-                        members = inl (word.holds.parts, set.elements, t.2, word.holds.value, a.1, set.members);
-                        order = t.3;
-                      }, omega (arith, size));
+                  holds = (
+                    record {
+                      elements = t.0;
+                      joins = t.4;
+                      members = inl (word.holds.parts, set.elements, t.2, word.holds.value, a.1, set.members);
+                      order = t.3;
+                    },
+                    omega (arith, size),
+                  );
                   taken = row.taken ∙ (ap (λ (z : List Mark). z ++ tapes_of row.kept) word.taken
                       ∙ append_assoc (before tape place) (tape_of word.kept) (tapes_of row.kept));
                   put = t.5;
@@ -358,8 +364,10 @@ module _ (table : List Node) (depth : ℕ) (unknown : Option ℕ) where
                   octets = row.octets;
                   kept = a.0;
                   are_octets = row.are_octets;
-                  holds = (record { elements = set.elements; joins = set.joins; members = inr a.2; order = set.order },
-                      omega (arith, size, one));
+                  holds = (
+                    record { elements = set.elements; joins = set.joins; members = inr a.2; order = set.order },
+                    omega (arith, size, one),
+                  );
                   taken = row.taken ∙ (ap (λ (z : List Mark). z ++ tapes_of row.kept) a.3
                       ∙ (append_assoc (before tape place) a.1 (tapes_of row.kept)
                       ∙ ap (λ (z : List Mark). before tape place ++ z) (sym a.4)));

@@ -560,7 +560,9 @@ fn read_members<'a>(
         }
         left = others;
     }
-    read_others(coding, nodes, depth, fields, unknown, of, octets, at, tape, refusal)
+    read_others(
+        coding, nodes, depth, fields, unknown, of, octets, at, tape, refusal,
+    )
 }
 
 /// Puts the value of a field of a set on the tape, or that it is left out.
@@ -614,9 +616,11 @@ fn read_others<'a>(
         tape.old.items tape.new.items result }
 {
     let mut rest = octets;
-    while let Some((tail, head, content)) =
-        element(coding, rest, further(at, octets.len(), rest.len()))
-    {
+    while let Some((tail, head, content)) = element(
+        coding,
+        rest,
+        further(at, octets.len(), rest.len()),
+    ) {
         match read_other(
             coding, nodes, depth, fields, unknown, of, head, content, tape, refusal,
         ) {

@@ -38,8 +38,10 @@ pub enum Reason {
     #[error("a component is missing")]
     MissingField,
     /// The elements of a set do not ascend by their tags (X.690 10.3).
+    #[error("the elements of a set do not ascend by their tags")]
     Order,
     /// A field of a set is there more than once.
+    #[error("a component stands there more than once")]
     Repeated,
     /// The default of a field that is left out is no value of its type: the table is at fault.
     #[error("the default is no value of its type")]

@@ -89,9 +89,11 @@ fn find_first<'a>(
         Each (Lacks nodes.now of) es) }
 {
     let mut rest = octets;
-    while let Some((tail, head, content)) =
-        element(coding, rest, further(at, octets.len(), rest.len()))
-    {
+    while let Some((tail, head, content)) = element(
+        coding,
+        rest,
+        further(at, octets.len(), rest.len()),
+    ) {
         if is_tagged(nodes, of, head) {
             return Some((tail, head, content));
         }
