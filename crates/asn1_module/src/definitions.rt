@@ -12,7 +12,7 @@ use asn1_schema::schema::{Kind, Presence};
 /// A field that has a default.
 #[derive(Debug, Clone, Copy)]
 struct Defaulted {
-    /// The place of the sequence in the table.
+    /// The place of the sequence or the set in the table.
     place: usize,
     /// Which field it is.
     field: usize,
@@ -24,7 +24,7 @@ struct Defaulted {
     stands: Place,
 }
 
-/// The fields of a sequence, and the defaults of these.
+/// The fields of a sequence or a set, and the defaults of these.
 #[derive(Debug, Drop)]
 struct Row<'t> {
     /// The fields.
@@ -63,6 +63,9 @@ impl<'s, 't> Places<'s, 't> {
             Body::Sequence(span, is_open) => {
                 self.make_row(schema, declared, (span, is_open), defaults)?
             }
+            Body::Set(span, is_open) => {
+                self.make_row(schema, declared, (span, is_open), defaults)?
+            }
             Body::SequenceOf(of) => {
                 let member = self.known(of, stands)?;
                 built(stands, schema.sequence_of("", member))?
@@ -90,7 +93,7 @@ impl<'s, 't> Places<'s, 't> {
         }
     }
 
-    /// Makes a sequence.
+    /// Makes a sequence or a set.
     fn make_row(
         &mut self,
         schema: &mut Schema<'t>,
@@ -105,10 +108,11 @@ impl<'s, 't> Places<'s, 't> {
         };
         self.push_parts(&mut row, declared, of.0, MOST_DEPTH)?;
         defaults.extend_from_slice(&row.defaults)?;
-        let made = if of.1 {
-            schema.open_sequence("", &row.parts)
-        } else {
-            schema.sequence("", &row.parts)
+        let made = match (is_set(declared), of.1) {
+            (false, false) => schema.sequence("", &row.parts),
+            (false, true) => schema.open_sequence("", &row.parts),
+            (true, false) => schema.set("", &row.parts),
+            (true, true) => schema.open_set("", &row.parts),
         };
         built(declared.stands, made)
     }
@@ -133,7 +137,7 @@ impl<'s, 't> Places<'s, 't> {
             row.looks -= 1;
             match component.appearance {
                 Appearance::Components => {
-                    let inner = self.components_of(component)?;
+                    let inner = self.components_of(component, is_set(declared))?;
                     self.push_parts(row, declared, inner, depth - 1)?;
                 }
                 _ => self.push_part(row, declared, component)?,
@@ -168,8 +172,9 @@ impl<'s, 't> Places<'s, 't> {
         Ok(())
     }
 
-    /// The components of the type whose components stand there (X.680 25.5).
-    fn components_of(&self, component: &Component<'t>) -> Result<Span, ModuleError> {
+    /// The components of the type whose components stand there: of a set in a set, and else of a sequence (X.680 25.5,
+    /// 27.2).
+    fn components_of(&self, component: &Component<'t>, is_set: bool) -> Result<Span, ModuleError> {
         let texts = self.texts;
         let mut at = component.of;
         for _ in 0..MOST_DEPTH {
@@ -177,7 +182,8 @@ impl<'s, 't> Places<'s, 't> {
                 break;
             };
             match entry.syntax {
-                TypeSyntax::Sequence(span, _) => return Ok(span),
+                TypeSyntax::Sequence(span, _) if !is_set => return Ok(span),
+                TypeSyntax::Set(span, _) if is_set => return Ok(span),
                 TypeSyntax::Tagged(_, _, of) => at = of,
                 TypeSyntax::Reference(from, name) => {
                     let named = texts.scopes.resolve(texts.syntax, entry.module, from, name);
@@ -189,10 +195,15 @@ impl<'s, 't> Places<'s, 't> {
                 _ => break,
             }
         }
-        Err(component.place.error(Wrong::NotSequence))
+        let wrong = if is_set {
+            Wrong::NotSet
+        } else {
+            Wrong::NotSequence
+        };
+        Err(component.place.error(wrong))
     }
 
-    /// Puts a default into a sequence. One that is not read is noted, and the field may be left out.
+    /// Puts a default into a sequence or a set. One that is not read is noted, and the field may be left out.
     fn put_default(
         &mut self,
         schema: &mut Schema<'t>,
@@ -226,13 +237,21 @@ fn drop_last(schema: &mut Schema<'_>) {
     let _ = schema.names.pop();
 }
 
+/// Whether a declared type is a set.
+fn is_set(declared: Declared) -> bool {
+    matches!(declared.body, Body::Set(_, _))
+}
+
 /// Sets the default of a field.
 fn set_default(schema: &mut Schema<'_>, defaulted: Defaulted, octets: Vec<u8>) {
     if let Some(node) = schema.nodes.get_mut(defaulted.place) {
-        if let Kind::Sequence(fields, _) = &mut node.kind {
-            if let Some(field) = fields.get_mut(defaulted.field) {
-                field.presence = Presence::Default(octets);
-            }
+        let fields = match &mut node.kind {
+            Kind::Sequence(fields, _) => fields,
+            Kind::Set(fields, _) => fields,
+            _ => return,
+        };
+        if let Some(field) = fields.get_mut(defaulted.field) {
+            field.presence = Presence::Default(octets);
         }
     }
 }

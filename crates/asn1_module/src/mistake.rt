@@ -41,7 +41,9 @@ pub enum Wrong {
     LeadsToItself,
     /// The components are of a type that is not a sequence.
     NotSequence,
-    /// The components of other types stand in one sequence too often.
+    /// The components are of a type that is not a set.
+    NotSet,
+    /// The components of other types stand in one sequence or set too often.
     Repeated,
     /// The number of a listed or named number, or of a bit, is not known.
     NoNumber,
@@ -131,6 +133,7 @@ impl fmt::Display for Wrong {
             Wrong::NotType => write!(f, "not a type"),
             Wrong::LeadsToItself => write!(f, "leads to itself, and no element stands between"),
             Wrong::NotSequence => write!(f, "not a sequence"),
+            Wrong::NotSet => write!(f, "not a set"),
             Wrong::Repeated => write!(f, "the components repeat"),
             Wrong::NoNumber => write!(f, "the number is not known"),
             Wrong::OpenArm => write!(f, "an unknown arm is not told from the arms"),
@@ -138,15 +141,19 @@ impl fmt::Display for Wrong {
     }
 }
 
+impl fmt::Display for Mistake {
+    fn fmt<W: fmt::Write>(&self, f: &mut fmt::Formatter<W>) -> fmt::Result {
+        let wrong = self.wrong;
+        let place = self.place;
+        write!(f, "text {}, octet {}: {wrong}", place.text, place.octet)
+    }
+}
+
 impl fmt::Display for ModuleError {
     fn fmt<W: fmt::Write>(&self, f: &mut fmt::Formatter<W>) -> fmt::Result {
         match self {
             ModuleError::OutOfMemory => write!(f, "out of memory"),
-            ModuleError::Mistake(mistake) => {
-                let wrong = mistake.wrong;
-                let place = mistake.place;
-                write!(f, "text {}, octet {}: {wrong}", place.text, place.octet)
-            }
+            ModuleError::Mistake(mistake) => write!(f, "{mistake}"),
         }
     }
 }

@@ -25,6 +25,8 @@ pub(crate) enum Slot {
 pub(crate) enum Body {
     /// These components, and whether there is an extension mark.
     Sequence(Span, bool),
+    /// The same, in any order.
+    Set(Span, bool),
     /// Members of the type of an entry.
     SequenceOf(usize),
     /// The same.
@@ -263,6 +265,9 @@ impl<'s, 't> Places<'s, 't> {
         match entry.syntax {
             TypeSyntax::Sequence(span, is_open) => {
                 self.declare(schema, entry, list, Body::Sequence(span, is_open))
+            }
+            TypeSyntax::Set(span, is_open) => {
+                self.declare(schema, entry, universal(17), Body::Set(span, is_open))
             }
             TypeSyntax::SequenceOf(of) => self.declare(schema, entry, list, Body::SequenceOf(of)),
             TypeSyntax::SetOf(of) => self.declare(schema, entry, universal(17), Body::SetOf(of)),

@@ -51,6 +51,8 @@ pub enum TypeSyntax<'t> {
     Any,
     /// SEQUENCE: components, and whether there is an extension mark.
     Sequence(Span, bool),
+    /// SET: components, and whether there is an extension mark.
+    Set(Span, bool),
     /// CHOICE: arms, and whether there is an extension mark.
     Choice(Span, bool),
     /// SEQUENCE OF.

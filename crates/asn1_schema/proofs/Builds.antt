@@ -40,6 +40,8 @@ unbounded_retagged of a b (kinds.Enumerated ns e) (kinds.Enumerated ms f) free i
 unbounded_retagged of a b (kinds.Enumerated ns e) kind free is = is
 unbounded_retagged of a b (kinds.Sequence fs u) (kinds.Sequence gs w) free is = is
 unbounded_retagged of a b (kinds.Sequence fs u) kind free is = is
+unbounded_retagged of a b (kinds.Set fs u) (kinds.Set gs w) free is = is
+unbounded_retagged of a b (kinds.Set fs u) kind free is = is
 unbounded_retagged of a b was kind free is = is
 
 -- bounds are on the type right before them

@@ -11,7 +11,9 @@ use Rattle.asn1_schema.specs.declared.schema.Node.{Node}
 use Rattle.asn1_schema.specs.declared.schema.Kind.{Kind}
 use Rattle.asn1_schema.specs.declared.schema.Kind.TheVariants as kinds
 use Rattle.asn1_schema.specs.Values.{Value, Values, none, absent, more}
-use Rattle.asn1_schema.specs.Grammar.{Rules, Says, Begins, StringOf, IsString, IsUniversal, AllButLast, IsBitContent, of_octets, of_bits, AreEach, AreItems, LeftOut, MayStand, IsThere, AreFields, KindBody, Through, Body, Word}
+use Rattle.asn1_schema.specs.Grammar.{Rules, Says, Begins, StringOf, IsString, IsUniversal, AllButLast, IsBitContent, of_octets, of_bits, AreEach, AreItems, LeftOut, MayStand, IsThere, AreFields, HasMember, AreMembers, AreSet, KindBody, Through, Body, Word}
+use Rattle.asn1_schema.specs.Each.{Each}
+use Rattle.asn1_schema.proofs.TakesParts.{each_left, each_joined}
 
 -- what the one rules allow, the others do
 pub record Includes (R S : Rules) : Type 0 where
@@ -23,6 +25,7 @@ pub record Includes (R S : Rules) : Type 0 where
   pub in_pieces : R.in_pieces ≡ true → S.in_pieces ≡ true
   pub inside : (d e : ℕ) (p : Parts) → d ≤ e → R.Inside d p → S.Inside e p
   pub order : (words : List (List ℕ)) → R.Order words → S.Order words
+  pub tag_order : (ps : List Parts) → R.TagOrder ps → S.TagOrder ps
 
 -- a value that may stand in a field by the one rules may by the others
 abbrev pub MayStill : (R S : Rules) → (Parts → Value → Type 0) → (Parts → Value → Type 0) → Type 0
@@ -136,6 +139,52 @@ module _ (R S : Rules) (inc : Includes R S) where
         inr (left_more (Sub f.of) (Tub f.of) (sub f.of) f.presence (AreFields R Sub unknown fs o)
         (AreFields S Tub unknown fs o) (λ xs b. fields_more unknown fs o xs b) vs a)
 
+    each_of_more : (t : ℕ) (es : List Parts) (vs : Values) → AreEach (Sub t) es vs → AreEach (Tub t) es vs
+    each_of_more t [] none a = a
+    each_of_more t [] (absent vs) a = a
+    each_of_more t [] (more v vs) a = a
+    each_of_more t (e ∷ es) none a = a
+    each_of_more t (e ∷ es) (absent vs) a = a
+    each_of_more t (e ∷ es) (more v vs) a = (sub t e v a.0, each_of_more t es vs a.1)
+
+    member_more : (t : ℕ) (presence : Presence) (F G : List Parts → Values → Type 0) →
+        ((us : List Parts) (xs : Values) → Each (λ p. (o : List ℕ) × R.ElementOf o p) us → F us xs → G us xs) →
+        (es : List Parts) (vs : Values) → Each (λ p. (o : List ℕ) × R.ElementOf o p) es →
+        HasMember R (Sub t) presence es vs F → HasMember S (Tub t) presence es vs G
+    member_more t presence F G g es none c a = a
+    member_more t presence F G g es (absent vs) c a = a
+    member_more t presence F G g es (more v vs) c a =
+        let u = each_left (λ p. (o : List ℕ) × R.ElementOf o p) es a.0 a.1 a.2 c in (
+          a.0,
+          a.1,
+          a.2,
+          sub t a.0 v a.3,
+          may t presence u.0.0 v (record { parts = a.0; element = u.0.1; value = a.3 }) a.4,
+          g a.1 vs u.1 a.5,
+        )
+
+    members_more : (unknown : Option ℕ) (fs : List Field) (es : List Parts) (vs : Values) →
+        Each (λ p. (o : List ℕ) × R.ElementOf o p) es → AreMembers R Sub unknown fs es vs →
+        AreMembers S Tub unknown fs es vs
+    members_more None [] es vs c a = a
+    members_more (Some t) [] es vs c a = each_of_more t es vs a
+    members_more unknown (f ∷ fs) es vs c (inl a) =
+        inl (member_more f.of f.presence (AreMembers R Sub unknown fs) (AreMembers S Tub unknown fs)
+        (λ us xs d b. members_more unknown fs us xs d b) es vs c a)
+    members_more unknown (f ∷ fs) es vs c (inr a) =
+        inr (left_more (Sub f.of) (Tub f.of) (sub f.of) f.presence (AreMembers R Sub unknown fs es)
+        (AreMembers S Tub unknown fs es) (λ xs b. members_more unknown fs es xs c b) vs a)
+
+    set_more : (unknown : Option ℕ) (fs : List Field) (o : List ℕ) (vs : Values) → AreSet R Sub unknown fs o vs →
+        AreSet S Tub unknown fs o vs
+    set_more unknown fs o vs a = record {
+      elements = a.elements;
+      joins = joined_map R.ElementOf S.ElementOf inc.element o a.elements a.joins;
+      members = members_more unknown fs a.elements vs
+          (each_joined R.ElementOf (λ p. (o : List ℕ) × R.ElementOf o p) (λ x p b. (x, b)) o a.elements a.joins) a.members;
+      order = inc.tag_order a.elements a.order;
+    }
+
     kind_more : (d e : ℕ) → d ≤ e → (Same Tame : ℕ → Parts → Value → Type 0) → ((t : ℕ) → Implies (Same t) (Tame t)) →
         (kind : Kind) → Implies (KindBody R d Sub Same kind) (KindBody S e Tub Tame kind)
     kind_more d e l Same Tame same kinds.Boolean p v a = (a.0, a.1, a.2, inc.truth p.content a.0 a.3)
@@ -152,6 +201,8 @@ module _ (R S : Rules) (inc : Includes R S) where
     kind_more d e l Same Tame same kinds.Any p v a = (a.0, inc.inside d e p l a.1)
     kind_more d e l Same Tame same (kinds.Sequence fields unknown) p v a =
         (a.0, a.1, a.2, fields_more unknown fields.items p.content a.0 a.3)
+    kind_more d e l Same Tame same (kinds.Set fields unknown) p v a =
+        (a.0, a.1, a.2, set_more unknown fields.items p.content a.0 a.3)
     kind_more d e l Same Tame same (kinds.SequenceOf t) p v a =
         (a.0, a.1, a.2, items_more (Sub t) (Tub t) (sub t) _ _ (λ words b. b) p.content a.0 a.3)
     kind_more d e l Same Tame same (kinds.SetOf t) p v a =

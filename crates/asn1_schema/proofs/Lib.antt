@@ -1,6 +1,7 @@
 pub mod SameParts
 pub mod Tags
 pub mod Strings
+pub mod TakesParts
 pub mod OneValue
 pub mod Lawful
 pub mod BitContents
@@ -16,6 +17,7 @@ pub mod ElementParts
 pub mod Depths
 pub mod Taken
 pub mod TakenRows
+pub mod TakenSets
 pub mod TakenPieces
 pub mod AnyParts
 pub mod PieceSizes
@@ -45,6 +47,8 @@ pub mod CutTapes
 pub mod WrittenStrings
 pub mod WrittenElements
 pub mod WrittenRows
+pub mod WrittenSets
+pub mod Settled
 pub mod WrittenItems
 pub mod WrittenBounds
 pub mod WrittenChoices
@@ -53,3 +57,4 @@ pub mod DigitsJoined
 pub mod WrittenBits
 pub mod WrittenTapes
 pub mod MembersCounted
+pub mod StrictWords

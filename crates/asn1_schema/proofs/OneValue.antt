@@ -1,11 +1,13 @@
 -- One value, and one word.
-use Rattle.std.proofs.Common.{◌≡◌, ◌∙◌, ap, sym, subst, refl, ℕ, zero, suc, inl, inr, Bool, true, List, [], ◌∷◌, ◌++◌}
+use Rattle.std.proofs.Common.{◌≡◌, ◌∙◌, ap, sym, subst, refl, ℕ, zero, suc, inl, inr, Bool, true, false, List, [], ◌∷◌, ◌++◌}
 use Rattle.std.specs.Prelude.{◌||◌, not, Option, Some, None, slice_get, if◌then◌else◌}
 use Rattle.std.specs.List.{concat}
 use Rattle.std.proofs.lemmas.List.{append_cancel_left}
 use Rattle.x690.specs.Elements.{Parts}
 use Rattle.x690.specs.Joined.{IsOneFront}
 use Rattle.x690.specs.Laws.Integers.{integer_content_one_value}
+use Rattle.x690.specs.Laws.Joined.{joined_same}
+use Rattle.asn1_schema.specs.Each.{Each}
 use Rattle.asn1_schema.specs.declared.schema.Tags.{Tags}
 use Rattle.asn1_schema.specs.declared.schema.Presence.{Presence}
 use Rattle.asn1_schema.specs.declared.schema.Presence.TheVariants as presences
@@ -15,9 +17,10 @@ use Rattle.asn1_schema.specs.declared.schema.Kind.{Kind}
 use Rattle.asn1_schema.specs.declared.schema.Kind.TheVariants as kinds
 use Rattle.asn1_schema.specs.Values.{boolean, integer, enumerated, bits, octets, text, time}
 use Rattle.asn1_schema.specs.Values.{Value, Values, leaf, row, chosen, none, absent, more}
-use Rattle.asn1_schema.specs.Grammar.{Rules, Says, Begins, has_tag, trimmed, of_octets, of_bits, AreEach, AreItems, AreUnknown, LeftOut, IsThere, AreFields, KindBody, Through, Body, Word}
+use Rattle.asn1_schema.specs.Grammar.{Rules, Says, Begins, has_tag, trimmed, of_octets, of_bits, AreEach, AreItems, AreUnknown, LeftOut, IsThere, AreFields, Takes, HasMember, AreOthers, AreMembers, AreSet, KindBody, Through, Body, Word}
 use Rattle.asn1_schema.specs.Sound.{node_at, apart_from, field_told, may_be_left_out, apart_from_next, apart_from_unknown, arms_told, arms_held, fields_told, kind_told, is_sound, is_single, HasTagAt}
 use Rattle.asn1_schema.proofs.Tags.{first_holds, second_holds, of_optional, apart_at, one_arm, node_told}
+use Rattle.asn1_schema.proofs.TakesParts.{each_map, each_put, each_left, one_taken}
 use Rattle.asn1_schema.proofs.Strings.{AreLawfulRules, HasOneValue, says_front, string_one, one_octets, one_bits}
 
 -- elements have a tag of their type
@@ -141,6 +144,14 @@ module _ (R : Rules) (lawful : AreLawfulRules R) where
   there_begins Sub presence o (absent vs) Rest a = absurd a
   there_begins Sub presence o (more v vs) Rest a = (v, a.0, a.1)
 
+  -- an element of the field is there
+  pub member_there : (Sub : Parts → Value → Type 0) (presence : Presence) (es : List Parts) (vs : Values)
+      (Rest : List Parts → Values → Type 0) → HasMember R Sub presence es vs Rest →
+      (e : Parts) × (others : List Parts) × (v : Value) × (ws : Values) × Takes es e others × Sub e v × Rest others ws
+  member_there Sub presence es none Rest a = absurd a
+  member_there Sub presence es (absent vs) Rest a = absurd a
+  member_there Sub presence es (more v vs) Rest a = (a.0, a.1, v, vs, a.2, a.3, a.5)
+
   module _ (table : List Node) (Sub : ℕ → Parts → Value → Type 0) (tag : HasItsTag table Sub) where
     -- no element of this type begins the octets
     not_begun : (ts : Tags) (t : ℕ) (o : List ℕ) (v : Value) (r : List ℕ) → Begins R (Sub t) o v r →
@@ -166,24 +177,24 @@ module _ (R : Rules) (lawful : AreLawfulRules R) where
 
     -- no element with one of these tags begins the fields
     pub no_next : (ts : Tags) (unknown : Option ℕ) (fs : List Field) (o : List ℕ) (vs : Values) →
-        AreFields R Sub unknown fs o vs → apart_from_next table unknown ts fs ≡ true → (x rest : List ℕ) (p : Parts) →
+        AreFields R Sub unknown fs o vs → apart_from_next false table unknown ts fs ≡ true → (x rest : List ℕ) (p : Parts) →
         R.ElementOf x p → o ≡ x ++ rest → has_tag ts p.id ≡ true → ⊥
     no_next ts unknown [] o vs a apart x rest p e is h = no_unknown ts unknown o vs a apart x rest p e is h
     no_next ts unknown (f ∷ fs) o vs (inl a) apart x rest p e is h =
         let b = there_begins (Sub f.of) f.presence o vs (AreFields R Sub unknown fs) a in
         not_begun ts f.of o b.0 b.1 b.2
         (first_holds (apart_from ts (node_at table f.of)) (not (may_be_left_out f.presence) ||
-        apart_from_next table unknown ts fs) apart) x rest p e is h
+        apart_from_next false table unknown ts fs) apart) x rest p e is h
     no_next ts unknown (f ∷ fs) o vs (inr a) apart x rest p e is h =
         let b = left_rest (Sub f.of) f.presence (AreFields R Sub unknown fs o) vs a in
         no_next ts unknown fs o b.0 b.1
-        (of_optional (may_be_left_out f.presence) (apart_from_next table unknown ts fs)
+        (of_optional (may_be_left_out f.presence) (apart_from_next false table unknown ts fs)
         (left_may (Sub f.of) f.presence (AreFields R Sub unknown fs o) vs a)
         (second_holds (apart_from ts (node_at table f.of)) (not (may_be_left_out f.presence) ||
-        apart_from_next table unknown ts fs) apart)) x rest p e is h
+        apart_from_next false table unknown ts fs) apart)) x rest p e is h
 
     -- a field is not both there and left out
-    pub not_two : (unknown : Option ℕ) (f : Field) (fs : List Field) → fields_told table unknown (f ∷ fs) ≡ true →
+    pub not_two : (unknown : Option ℕ) (f : Field) (fs : List Field) → fields_told false table unknown (f ∷ fs) ≡ true →
         (o : List ℕ) (vs ws : Values) → IsThere R (Sub f.of) f.presence o vs (AreFields R Sub unknown fs) →
         LeftOut R (Sub f.of) f.presence ws (AreFields R Sub unknown fs o) → ⊥
     not_two unknown f fs told o vs ws a b =
@@ -191,13 +202,13 @@ module _ (R : Rules) (lawful : AreLawfulRules R) where
         let begins = c.2 in
         let h = tag f.of begins.says.parts c.0 begins.says.value in
         let d = left_rest (Sub f.of) f.presence (AreFields R Sub unknown fs o) ws b in
-        let apart : field_told table unknown (node_at table f.of) fs ≡ true =
-        of_optional (may_be_left_out f.presence) (field_told table unknown (node_at table f.of) fs)
+        let apart : field_told false table unknown (node_at table f.of) fs ≡ true =
+        of_optional (may_be_left_out f.presence) (field_told false table unknown (node_at table f.of) fs)
         (left_may (Sub f.of) f.presence (AreFields R Sub unknown fs o) ws b)
-        (first_holds (not (may_be_left_out f.presence) || field_told table unknown (node_at table f.of) fs)
-        (fields_told table unknown fs) told) in
+        (first_holds (not (may_be_left_out f.presence) || field_told false table unknown (node_at table f.of) fs)
+        (fields_told false table unknown fs) told) in
         no_next h.node.tags unknown fs o d.0 d.1
-        (subst (λ (z : Option Node). field_told table unknown z fs ≡ true) h.found apart)
+        (subst (λ (z : Option Node). field_told false table unknown z fs ≡ true) h.found apart)
         begins.word c.1 begins.says.parts begins.says.element begins.is h.tagged
 
     unknown_one : ((t : ℕ) → HasOneValue (Sub t)) → (unknown : Option ℕ) (o : List ℕ) (vs ws : Values) →
@@ -206,19 +217,132 @@ module _ (R : Rules) (lawful : AreLawfulRules R) where
     unknown_one one (Some t) o vs ws a b = items_one (Sub t) (one t) _ o vs ws a b
 
     pub fields_one : ((t : ℕ) → HasOneValue (Sub t)) → (unknown : Option ℕ) (fs : List Field) →
-        fields_told table unknown fs ≡ true → (o : List ℕ) (vs ws : Values) → AreFields R Sub unknown fs o vs →
+        fields_told false table unknown fs ≡ true → (o : List ℕ) (vs ws : Values) → AreFields R Sub unknown fs o vs →
         AreFields R Sub unknown fs o ws → vs ≡ ws
     fields_one one unknown [] told o vs ws a b = unknown_one one unknown o vs ws a b
     fields_one one unknown (f ∷ fs) told o vs ws (inl a) (inl b) =
         there_one (Sub f.of) (one f.of) f.presence o (AreFields R Sub unknown fs)
         (λ r xs ys. fields_one one unknown fs (second_holds (not (may_be_left_out f.presence) ||
-        field_told table unknown (node_at table f.of) fs) (fields_told table unknown fs) told) r xs ys) vs ws a b
+        field_told false table unknown (node_at table f.of) fs) (fields_told false table unknown fs) told) r xs ys) vs ws a b
     fields_one one unknown (f ∷ fs) told o vs ws (inl a) (inr b) = absurd (not_two unknown f fs told o vs ws a b)
     fields_one one unknown (f ∷ fs) told o vs ws (inr a) (inl b) = absurd (not_two unknown f fs told o ws vs b a)
     fields_one one unknown (f ∷ fs) told o vs ws (inr a) (inr b) =
         left_one (Sub f.of) (one f.of) f.presence (AreFields R Sub unknown fs o)
         (λ xs ys. fields_one one unknown fs (second_holds (not (may_be_left_out f.presence) ||
-        field_told table unknown (node_at table f.of) fs) (fields_told table unknown fs) told) o xs ys) vs ws a b
+        field_told false table unknown (node_at table f.of) fs) (fields_told false table unknown fs) told) o xs ys) vs ws a b
+
+    -- Sets: no element of these fields, or of none, has one of these tags.
+    no_other : (ts : Tags) (unknown : Option ℕ) (es : List Parts) (vs : Values) → AreOthers Sub unknown es vs →
+        apart_from_unknown table ts unknown ≡ true → Each (λ p. has_tag ts p.id ≡ true → ⊥) es
+    no_other ts None es vs a apart = subst (Each (λ p. has_tag ts p.id ≡ true → ⊥)) (sym a.0) tt
+    no_other ts (Some t) es vs a apart = by_each es vs a
+      where
+        by_each : (es : List Parts) (ws : Values) → AreEach (Sub t) es ws → Each (λ p. has_tag ts p.id ≡ true → ⊥) es
+        by_each [] ws a = tt
+        by_each (e ∷ es) none a = absurd a
+        by_each (e ∷ es) (absent ws) a = absurd a
+        by_each (e ∷ es) (more w ws) a = (apart_at table ts t e.id apart (tag t e w a.0), by_each es ws a.1)
+
+    no_member : (ts : Tags) (unknown : Option ℕ) (fs : List Field) (es : List Parts) (vs : Values) →
+        AreMembers R Sub unknown fs es vs → apart_from_next true table unknown ts fs ≡ true →
+        Each (λ p. has_tag ts p.id ≡ true → ⊥) es
+    no_member ts unknown [] es vs a apart = no_other ts unknown es vs a apart
+    no_member ts unknown (f ∷ fs) es vs (inl a) apart =
+        let b = member_there (Sub f.of) f.presence es vs (AreMembers R Sub unknown fs) a in
+        each_put (λ p. has_tag ts p.id ≡ true → ⊥) es b.0 b.1 b.4
+        (apart_at table ts f.of b.0.id (first_holds (apart_from ts (node_at table f.of))
+        (apart_from_next true table unknown ts fs) apart) (tag f.of b.0 b.2 b.5))
+        (no_member ts unknown fs b.1 b.3 b.6 (second_holds (apart_from ts (node_at table f.of))
+        (apart_from_next true table unknown ts fs) apart))
+    no_member ts unknown (f ∷ fs) es vs (inr a) apart =
+        let b = left_rest (Sub f.of) f.presence (AreMembers R Sub unknown fs es) vs a in
+        no_member ts unknown fs es b.0 b.1 (second_holds (apart_from ts (node_at table f.of))
+        (apart_from_next true table unknown ts fs) apart)
+
+    -- where an element has a tag of a field, none of those of the fields behind it has one
+    pub none_alike : (unknown : Option ℕ) (f : Field) (fs : List Field) → fields_told true table unknown (f ∷ fs) ≡ true →
+        (e : Parts) → HasTagAt table f.of e.id → (es : List Parts) (vs : Values) → AreMembers R Sub unknown fs es vs →
+        Each (λ p. HasTagAt table f.of p.id → ⊥) es
+    none_alike unknown f fs told e h es vs a =
+        each_map (λ p. has_tag h.node.tags p.id ≡ true → ⊥) (λ p. HasTagAt table f.of p.id → ⊥)
+        (λ p n g.
+        let same : g.node ≡ h.node = (let x = g.found in let y = h.found in cc) in
+        n (subst (λ (z : Node). has_tag z.tags p.id ≡ true) same g.tagged)) es
+        (no_member h.node.tags unknown fs es vs a
+        (subst (λ (z : Option Node). field_told true table unknown z fs ≡ true) h.found
+        (first_holds (field_told true table unknown (node_at table f.of) fs) (fields_told true table unknown fs) told)))
+
+    others_one : ((t : ℕ) → HasOneValue (Sub t)) → (unknown : Option ℕ) (es : List Parts) (vs ws : Values) →
+        AreOthers Sub unknown es vs → AreOthers Sub unknown es ws → vs ≡ ws
+    others_one one None es vs ws a b = a.1 ∙ sym b.1
+    others_one one (Some t) es vs ws a b = by_each es vs ws a b
+      where
+        by_each : (es : List Parts) (vs ws : Values) → AreEach (Sub t) es vs → AreEach (Sub t) es ws → vs ≡ ws
+        by_each [] none none a b = refl
+        by_each [] none (absent ws) a b = absurd b
+        by_each [] none (more w ws) a b = absurd b
+        by_each [] (absent vs) ws a b = absurd a
+        by_each [] (more v vs) ws a b = absurd a
+        by_each (e ∷ es) none ws a b = absurd a
+        by_each (e ∷ es) (absent vs) ws a b = absurd a
+        by_each (e ∷ es) (more v vs) none a b = absurd b
+        by_each (e ∷ es) (more v vs) (absent ws) a b = absurd b
+        by_each (e ∷ es) (more v vs) (more w ws) a b =
+            let here = one t e v w a.0 b.0 in
+            let there = by_each es vs ws a.1 b.1 in
+            cc
+
+    both_there : (f : Field) → HasOneValue (Sub f.of) → (es : List Parts) (Rest : List Parts → Values → Type 0) →
+        ((us : List Parts) (xs : Values) (e : Parts) → HasTagAt table f.of e.id → Rest us xs →
+        Each (λ p. HasTagAt table f.of p.id → ⊥) us) →
+        ((us : List Parts) (xs ys : Values) → Rest us xs → Rest us ys → xs ≡ ys) → (vs ws : Values) →
+        HasMember R (Sub f.of) f.presence es vs Rest → HasMember R (Sub f.of) f.presence es ws Rest → vs ≡ ws
+    both_there f one es Rest lack rest none ws a b = absurd a
+    both_there f one es Rest lack rest (absent vs) ws a b = absurd a
+    both_there f one es Rest lack rest (more v vs) none a b = absurd b
+    both_there f one es Rest lack rest (more v vs) (absent ws) a b = absurd b
+    both_there f one es Rest lack rest (more v vs) (more w ws) a b =
+        let u = one_taken (λ p. HasTagAt table f.of p.id) es a.0 b.0 a.1 b.1 a.2 b.2 (tag f.of a.0 v a.3)
+        (lack b.1 ws b.0 (tag f.of b.0 w b.3) b.5) in
+        let here = one b.0 v w (subst (λ (z : Parts). Sub f.of z v) u.0 a.3) b.3 in
+        let there = rest b.1 vs ws (subst (λ (z : List Parts). Rest z vs) u.1 a.5) b.5 in
+        cc
+
+    -- a field of a set is not both there and left out
+    not_both_ways : (unknown : Option ℕ) (f : Field) (fs : List Field) → fields_told true table unknown (f ∷ fs) ≡ true →
+        (es : List Parts) (vs ws : Values) → HasMember R (Sub f.of) f.presence es vs (AreMembers R Sub unknown fs) →
+        LeftOut R (Sub f.of) f.presence ws (AreMembers R Sub unknown fs es) → ⊥
+    not_both_ways unknown f fs told es vs ws a b =
+        let c = member_there (Sub f.of) f.presence es vs (AreMembers R Sub unknown fs) a in
+        let h = tag f.of c.0 c.2 c.5 in
+        let d = left_rest (Sub f.of) f.presence (AreMembers R Sub unknown fs es) ws b in
+        (each_left (λ p. HasTagAt table f.of p.id → ⊥) es c.0 c.1 c.4
+        (none_alike unknown f fs told c.0 h es d.0 d.1)).0 h
+
+    pub members_one : ((t : ℕ) → HasOneValue (Sub t)) → (unknown : Option ℕ) (fs : List Field) →
+        fields_told true table unknown fs ≡ true → (es : List Parts) (vs ws : Values) →
+        AreMembers R Sub unknown fs es vs → AreMembers R Sub unknown fs es ws → vs ≡ ws
+    members_one one unknown [] told es vs ws a b = others_one one unknown es vs ws a b
+    members_one one unknown (f ∷ fs) told es vs ws (inl a) (inl b) =
+        both_there f (one f.of) es (AreMembers R Sub unknown fs)
+        (λ us xs e h c. none_alike unknown f fs told e h us xs c)
+        (λ us xs ys. members_one one unknown fs (second_holds (field_told true table unknown (node_at table f.of) fs)
+        (fields_told true table unknown fs) told) us xs ys) vs ws a b
+    members_one one unknown (f ∷ fs) told es vs ws (inl a) (inr b) = absurd (not_both_ways unknown f fs told es vs ws a b)
+    members_one one unknown (f ∷ fs) told es vs ws (inr a) (inl b) = absurd (not_both_ways unknown f fs told es ws vs b a)
+    members_one one unknown (f ∷ fs) told es vs ws (inr a) (inr b) =
+        left_one (Sub f.of) (one f.of) f.presence (AreMembers R Sub unknown fs es)
+        (λ xs ys. members_one one unknown fs (second_holds (field_told true table unknown (node_at table f.of) fs)
+        (fields_told true table unknown fs) told) es xs ys) vs ws a b
+
+    set_one : ((t : ℕ) → HasOneValue (Sub t)) → (unknown : Option ℕ) (fs : List Field) →
+        fields_told true table unknown fs ≡ true → (o : List ℕ) (vs ws : Values) → AreSet R Sub unknown fs o vs →
+        AreSet R Sub unknown fs o ws → vs ≡ ws
+    set_one one unknown fs told o vs ws a b =
+        let same : a.elements ≡ b.elements =
+        joined_same R.ElementOf lawful.one o o a.elements b.elements refl a.joins b.joins in
+        members_one one unknown fs told b.elements vs ws
+        (subst (λ (z : List Parts). AreMembers R Sub unknown fs z vs) same a.members) b.members
 
     kind_one : ((t : ℕ) → HasOneValue (Sub t)) → (depth : ℕ) (Same : ℕ → Parts → Value → Type 0) →
         HasItsTag table Same → ((t : ℕ) → HasOneValue (Same t)) → (ts : Tags) (kind : Kind) →
@@ -248,7 +372,11 @@ module _ (R : Rules) (lawful : AreLawfulRules R) where
         a.1 ∙ (ap (λ z. leaf (time kind z)) e ∙ sym b.1)
     kind_one one depth Same has same ts kinds.Any told p v w a b = a.0 ∙ sym b.0
     kind_one one depth Same has same ts (kinds.Sequence fields unknown) told p v w a b =
-        let e = fields_one one unknown fields.items (second_holds (is_single ts) (fields_told table unknown fields.items)
+        let e = fields_one one unknown fields.items (second_holds (is_single ts) (fields_told false table unknown fields.items)
+        told) p.content a.0 b.0 a.3 b.3 in
+        a.1 ∙ (ap row e ∙ sym b.1)
+    kind_one one depth Same has same ts (kinds.Set fields unknown) told p v w a b =
+        let e = set_one one unknown fields.items (second_holds (is_single ts) (fields_told true table unknown fields.items)
         told) p.content a.0 b.0 a.3 b.3 in
         a.1 ∙ (ap row e ∙ sym b.1)
     kind_one one depth Same has same ts (kinds.SequenceOf t) told p v w a b =

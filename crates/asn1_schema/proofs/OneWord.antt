@@ -1,10 +1,13 @@
 -- A value has one strict word.
-use Rattle.std.proofs.Common.{◌≡◌, ◌∙◌, ap, sym, subst, refl, ℕ, zero, suc, inl, inr, Bool, true, false, List, [], ◌∷◌, ◌++◌}
+use Rattle.std.proofs.Common.{◌≡◌, ◌∙◌, ap, sym, subst, refl, ℕ, zero, suc, inl, inr, Bool, true, false, List, [], ◌∷◌, ◌++◌, length}
 use Rattle.std.specs.Prelude.{Option, Some, None, slice_get, ℤ, if◌then◌else◌}
 use Rattle.std.specs.List.{concat}
 use Rattle.x690.specs.Identifiers.{Identifier}
 use Rattle.x690.specs.Integers.{IsIntegerContent}
 use Rattle.x690.specs.Elements.{Parts, IsDerElement}
+use Rattle.x690.specs.Lengths.{definite}
+use Rattle.x690.specs.Joined.{IsJoined}
+use Rattle.x690.specs.Laws.Joined.{joined_one}
 use Rattle.x690.specs.Strict.{element_octets}
 use Rattle.x690.specs.Laws.Integers.{integer_content_unique}
 use Rattle.x690.specs.Laws.StrictElements.{der_element_strict, strict_element_octets}
@@ -17,10 +20,12 @@ use Rattle.asn1_schema.specs.declared.schema.Kind.{Kind}
 use Rattle.asn1_schema.specs.declared.schema.Kind.TheVariants as kinds
 use Rattle.asn1_schema.specs.Values.{boolean, integer, enumerated, bits, octets, identifier, text, time, any}
 use Rattle.asn1_schema.specs.Values.{Value, Values, leaf, row, chosen, none, absent, more}
-use Rattle.asn1_schema.specs.Grammar.{Says, Begins, has_tag, trimmed, of_octets, of_bits, StringOf, IsString, AreEach, AreItems, LeftOut, IsThere, AreFields, KindBody, Through, Body, Word}
-use Rattle.asn1_schema.specs.Rules.{strict, IsStrictTruth}
+use Rattle.asn1_schema.specs.Grammar.{Says, Begins, has_tag, trimmed, of_octets, of_bits, StringOf, IsString, AreEach, AreItems, LeftOut, MayStand, IsThere, AreFields, Takes, HasMember, AreOthers, AreMembers, AreSet, KindBody, Through, Body, Word}
+use Rattle.asn1_schema.specs.Each.{Each}
+use Rattle.asn1_schema.specs.Rules.{strict, IsStrictTruth, TagsAscend}
 use Rattle.asn1_schema.specs.Sound.{is_sound, is_single, fields_told, kind_told}
 use Rattle.asn1_schema.proofs.Tags.{first_holds, node_told, single_tag}
+use Rattle.asn1_schema.proofs.TakesParts.{each_left, ascend_left, one_put, each_joined}
 use Rattle.asn1_schema.proofs.BitContents.{one_bit_content}
 
 -- elements with one value have one identifier and one content
@@ -98,23 +103,35 @@ there_word Sub one presence Rest rest o u (more v vs) (more w ws) e a b =
     one_input Sub one o u a.0 b.0 w (subst (λ (z : Value). Begins strict Sub o z a.0) here a.1) b.1
     (rest a.0 b.0 vs ws there a.3 b.3)
 
+-- a value that may stand is not left out
+pub not_left : (Sub : Parts → Value → Type 0) (presence : Presence) (Behind : Values → Type 0) (v : Value) (vs ws : Values) →
+    more v vs ≡ ws → MayStand strict Sub presence v → LeftOut strict Sub presence ws Behind → ⊥
+not_left Sub presences.Required Behind v vs ws e m b = b
+not_left Sub presences.Optional Behind v vs none e m b = b
+not_left Sub presences.Optional Behind v vs (absent ws) e m b = absurd (cc)
+not_left Sub presences.Optional Behind v vs (more w ws) e m b = b
+not_left Sub (presences.Default d) Behind v vs none e m b = b
+not_left Sub (presences.Default d) Behind v vs (absent ws) e m b = b
+not_left Sub (presences.Default d) Behind v vs (more w ws) e m b =
+    let here : w ≡ v = cc in
+    elim m [ inl f ↦ absurd (cc) | inr f ↦ f (subst (λ (z : Value). Says strict Sub d.items z) here b.0) ]
+
 -- a value is encoded, or left out: not both
 not_there : (Sub : Parts → Value → Type 0) (presence : Presence) (Rest : List ℕ → Values → Type 0)
     (Behind : Values → Type 0) (o : List ℕ) (vs ws : Values) → vs ≡ ws → IsThere strict Sub presence o vs Rest →
     LeftOut strict Sub presence ws Behind → ⊥
-not_there Sub presences.Required Rest Behind o vs ws e a b = b
 not_there Sub presence Rest Behind o none ws e a b = a
 not_there Sub presence Rest Behind o (absent vs) ws e a b = a
-not_there Sub presences.Optional Rest Behind o (more v vs) none e a b = b
-not_there Sub presences.Optional Rest Behind o (more v vs) (absent ws) e a b = absurd (cc)
-not_there Sub presences.Optional Rest Behind o (more v vs) (more w ws) e a b = b
-not_there Sub (presences.Default d) Rest Behind o (more v vs) none e a b = b
-not_there Sub (presences.Default d) Rest Behind o (more v vs) (absent ws) e a b = b
-not_there Sub (presences.Default d) Rest Behind o (more v vs) (more w ws) e a b =
-    let here : w ≡ v = cc in
-    elim a.2 [ inl f ↦ absurd (cc) | inr f ↦ f (subst (λ (z : Value). Says strict Sub d.items z) here b.0) ]
+not_there Sub presence Rest Behind o (more v vs) ws e a b = not_left Sub presence Behind v vs ws e a.2 b
 
-left_word : (Sub : Parts → Value → Type 0) (presence : Presence) (A B : Values → Type 0) (o u : List ℕ) →
+not_member : (Sub : Parts → Value → Type 0) (presence : Presence) (Rest : List Parts → Values → Type 0)
+    (Behind : Values → Type 0) (es : List Parts) (vs ws : Values) → vs ≡ ws → HasMember strict Sub presence es vs Rest →
+    LeftOut strict Sub presence ws Behind → ⊥
+not_member Sub presence Rest Behind es none ws e a b = a
+not_member Sub presence Rest Behind es (absent vs) ws e a b = a
+not_member Sub presence Rest Behind es (more v vs) ws e a b = not_left Sub presence Behind v vs ws e a.4 b
+
+left_word : {X : Type 0} (Sub : Parts → Value → Type 0) (presence : Presence) (A B : Values → Type 0) (o u : X) →
     ((xs ys : Values) → xs ≡ ys → A xs → B ys → o ≡ u) → (vs ws : Values) → vs ≡ ws →
     LeftOut strict Sub presence vs A → LeftOut strict Sub presence ws B → o ≡ u
 left_word Sub presences.Required A B o u rest vs ws e a b = absurd a
@@ -148,6 +165,93 @@ fields_word Sub one unknown (f ∷ fs) o u vs ws e (inr a) (inl b) =
 fields_word Sub one unknown (f ∷ fs) o u vs ws e (inr a) (inr b) =
     left_word (Sub f.of) f.presence (AreFields strict Sub unknown fs o) (AreFields strict Sub unknown fs u) o u
     (λ xs ys g c d. fields_word Sub one unknown fs o u xs ys g c d) vs ws e a b
+
+-- Sets. Elements with one value are the same, where their lengths are definite.
+abbrev pub IsDefinite : Parts → Type 0
+IsDefinite p = p.form ≡ definite (length p.content)
+
+pub same_element : (p q : Parts) → SameParts p q → IsDefinite p → IsDefinite q → p ≡ q
+same_element p q s a b =
+    let form : p.form ≡ q.form = a ∙ (ap (λ (c : List ℕ). definite (length c)) s.1 ∙ sym b) in
+    λ i. record { id = s.0 i; form = form i; content = s.1 i }
+
+each_element : (Sub : Parts → Value → Type 0) → HasOneWord Sub → (es us : List Parts) (vs ws : Values) → vs ≡ ws →
+    Each IsDefinite es → Each IsDefinite us → AreEach Sub es vs → AreEach Sub us ws → es ≡ us
+each_element Sub one [] [] vs ws s c d a b = refl
+each_element Sub one [] (u ∷ us) none none s c d a b = absurd b
+each_element Sub one [] (u ∷ us) none (absent ws) s c d a b = absurd b
+each_element Sub one [] (u ∷ us) none (more w ws) s c d a b = absurd (cc)
+each_element Sub one [] (u ∷ us) (absent vs) ws s c d a b = absurd a
+each_element Sub one [] (u ∷ us) (more v vs) ws s c d a b = absurd a
+each_element Sub one (e ∷ es) us none ws s c d a b = absurd a
+each_element Sub one (e ∷ es) us (absent vs) ws s c d a b = absurd a
+each_element Sub one (e ∷ es) [] (more v vs) none s c d a b = absurd (cc)
+each_element Sub one (e ∷ es) [] (more v vs) (absent ws) s c d a b = absurd b
+each_element Sub one (e ∷ es) [] (more v vs) (more w ws) s c d a b = absurd b
+each_element Sub one (e ∷ es) (u ∷ us) (more v vs) none s c d a b = absurd b
+each_element Sub one (e ∷ es) (u ∷ us) (more v vs) (absent ws) s c d a b = absurd b
+each_element Sub one (e ∷ es) (u ∷ us) (more v vs) (more w ws) s c d a b =
+    let here : v ≡ w = cc in
+    let there : vs ≡ ws = cc in
+    let first : e ≡ u = same_element e u (one e u w (subst (λ (z : Value). Sub e z) here a.0) b.0) c.0 d.0 in
+    let others : es ≡ us = each_element Sub one es us vs ws there c.1 d.1 a.1 b.1 in
+    cc
+
+member_element : (Sub : Parts → Value → Type 0) → HasOneWord Sub → (presence : Presence) (es us : List Parts)
+    (Rest : List Parts → Values → Type 0) →
+    ((fs gs : List Parts) (xs ys : Values) → xs ≡ ys → Each IsDefinite fs → Each IsDefinite gs → TagsAscend fs →
+    TagsAscend gs → Rest fs xs → Rest gs ys → fs ≡ gs) → (vs ws : Values) → vs ≡ ws → Each IsDefinite es →
+    Each IsDefinite us → TagsAscend es → TagsAscend us → HasMember strict Sub presence es vs Rest →
+    HasMember strict Sub presence us ws Rest → es ≡ us
+member_element Sub one presence es us Rest rest none ws s c d i j a b = absurd a
+member_element Sub one presence es us Rest rest (absent vs) ws s c d i j a b = absurd a
+member_element Sub one presence es us Rest rest (more v vs) none s c d i j a b = absurd b
+member_element Sub one presence es us Rest rest (more v vs) (absent ws) s c d i j a b = absurd b
+member_element Sub one presence es us Rest rest (more v vs) (more w ws) s c d i j a b =
+    let here : v ≡ w = cc in
+    let there : vs ≡ ws = cc in
+    let k = each_left IsDefinite es a.0 a.1 a.2 c in
+    let l = each_left IsDefinite us b.0 b.1 b.2 d in
+    let first : a.0 ≡ b.0 = same_element a.0 b.0
+    (one a.0 b.0 w (subst (λ (z : Value). Sub a.0 z) here a.3) b.3) k.0 l.0 in
+    let others = rest a.1 b.1 vs ws there k.1 l.1 (ascend_left None es a.0 a.1 a.2 i) (ascend_left None us b.0 b.1 b.2 j)
+    a.5 b.5 in
+    one_put es us b.0 a.1 b.1 others (subst (λ (z : Parts). Takes es z a.1) first a.2) b.2 i j
+
+pub others_element : (Sub : ℕ → Parts → Value → Type 0) → ((t : ℕ) → HasOneWord (Sub t)) → (unknown : Option ℕ)
+    (es us : List Parts) (vs ws : Values) → vs ≡ ws → Each IsDefinite es → Each IsDefinite us →
+    AreOthers Sub unknown es vs → AreOthers Sub unknown us ws → es ≡ us
+others_element Sub one None es us vs ws s c d a b = a.0 ∙ sym b.0
+others_element Sub one (Some t) es us vs ws s c d a b = each_element (Sub t) (one t) es us vs ws s c d a b
+
+pub members_element : (Sub : ℕ → Parts → Value → Type 0) → ((t : ℕ) → HasOneWord (Sub t)) → (unknown : Option ℕ)
+    (fs : List Field) (es us : List Parts) (vs ws : Values) → vs ≡ ws → Each IsDefinite es → Each IsDefinite us →
+    TagsAscend es → TagsAscend us → AreMembers strict Sub unknown fs es vs → AreMembers strict Sub unknown fs us ws →
+    es ≡ us
+members_element Sub one unknown [] es us vs ws s c d i j a b = others_element Sub one unknown es us vs ws s c d a b
+members_element Sub one unknown (f ∷ fs) es us vs ws s c d i j (inl a) (inl b) =
+    member_element (Sub f.of) (one f.of) f.presence es us (AreMembers strict Sub unknown fs)
+    (members_element Sub one unknown fs) vs ws s c d i j a b
+members_element Sub one unknown (f ∷ fs) es us vs ws s c d i j (inl a) (inr b) =
+    absurd (not_member (Sub f.of) f.presence (AreMembers strict Sub unknown fs) (AreMembers strict Sub unknown fs us) es
+    vs ws s a b)
+members_element Sub one unknown (f ∷ fs) es us vs ws s c d i j (inr a) (inl b) =
+    absurd (not_member (Sub f.of) f.presence (AreMembers strict Sub unknown fs) (AreMembers strict Sub unknown fs es) us
+    ws vs (sym s) b a)
+members_element Sub one unknown (f ∷ fs) es us vs ws s c d i j (inr a) (inr b) =
+    left_word (Sub f.of) f.presence (AreMembers strict Sub unknown fs es) (AreMembers strict Sub unknown fs us) es us
+    (λ xs ys g p q. members_element Sub one unknown fs es us xs ys g c d i j p q) vs ws s a b
+
+-- a set of values has one strict word
+set_word : (Sub : ℕ → Parts → Value → Type 0) → ((t : ℕ) → HasOneWord (Sub t)) → (unknown : Option ℕ) (fs : List Field)
+    (o u : List ℕ) (vs ws : Values) → vs ≡ ws → AreSet strict Sub unknown fs o vs → AreSet strict Sub unknown fs u ws →
+    o ≡ u
+set_word Sub one unknown fs o u vs ws s a b =
+    let same = members_element Sub one unknown fs a.elements b.elements vs ws s
+    (each_joined IsDerElement IsDefinite (λ x p d. d.counted) o a.elements a.joins)
+    (each_joined IsDerElement IsDefinite (λ x p d. d.counted) u b.elements b.joins) a.order b.order a.members b.members in
+    joined_one IsDerElement (λ p x y c d. same_word x y p p c d (refl, refl)) b.elements o u
+    (subst (λ (z : List Parts). IsJoined IsDerElement o z) same a.joins) b.joins
 
 -- strict strings are primitive
 primitive : {A : Type 0} (S : StringOf A) (depth : ℕ) (p : Parts) (xs : List A) → IsString strict S depth p xs →
@@ -235,8 +339,13 @@ module _ (depth : ℕ) (Sub : ℕ → Parts → Value → Type 0) (one : (t : �
   kind_word table ts (kinds.Sequence fields unknown) told p q v h g a b =
       let e : row a.0 ≡ row b.0 = sym a.1 ∙ b.1 in
       let x : a.0 ≡ b.0 = cc in
-      alike ts p q true (first_holds (is_single ts) (fields_told table unknown fields.items) told) h g a.2 b.2
+      alike ts p q true (first_holds (is_single ts) (fields_told false table unknown fields.items) told) h g a.2 b.2
       (fields_word Sub one unknown fields.items p.content q.content a.0 b.0 x a.3 b.3)
+  kind_word table ts (kinds.Set fields unknown) told p q v h g a b =
+      let e : row a.0 ≡ row b.0 = sym a.1 ∙ b.1 in
+      let x : a.0 ≡ b.0 = cc in
+      alike ts p q true (first_holds (is_single ts) (fields_told true table unknown fields.items) told) h g a.2 b.2
+      (set_word Sub one unknown fields.items p.content q.content a.0 b.0 x a.3 b.3)
   kind_word table ts (kinds.SequenceOf t) told p q v h g a b =
       let e : row a.0 ≡ row b.0 = sym a.1 ∙ b.1 in
       let x : a.0 ≡ b.0 = cc in
@@ -268,7 +377,7 @@ through_word table sound depth Sub one (suc k) t p q v a b =
     (subst (λ (z : Node). has_tag z.tags p.id ≡ true) node a.tagged) b.tagged
     (subst (λ (z : Node). KindBody strict depth Sub (Through strict depth Sub table k) z.kind p v) node a.body) b.body
 
-body_word : (table : List Node) → is_sound table ≡ true → (depth t : ℕ) → HasOneWord (Body strict table depth t)
+pub body_word : (table : List Node) → is_sound table ≡ true → (depth t : ℕ) → HasOneWord (Body strict table depth t)
 unfolding Body
 body_word table sound zero t p q v a b = absurd a
 body_word table sound (suc depth) t p q v a b =

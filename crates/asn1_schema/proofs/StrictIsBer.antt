@@ -40,6 +40,7 @@ strict_in_der = record {
   in_pieces = λ a. a;
   inside = inside_deeper;
   order = λ words a. tt;
+  tag_order = λ ps a. a;
 }
 
 truth_lax : (c : List ℕ) (b : Bool) → IsStrictTruth c b → IsTruth c b
@@ -63,6 +64,7 @@ der_in_ber max = record {
   in_pieces = λ a. absurd (cc);
   inside = λ d e p l a. tt;
   order = λ words a. a;
+  tag_order = λ ps a. tt;
 }
 
 -- where defaults may be written, any value may
@@ -93,6 +95,7 @@ der_in_der = record {
   in_pieces = λ a. a;
   inside = inside_deeper;
   order = λ words a. a;
+  tag_order = λ ps a. a;
 }
 
 ber_in_ber : (max : ℕ) → Includes (ber max) (ber max)
@@ -105,6 +108,7 @@ ber_in_ber max = record {
   in_pieces = λ a. a;
   inside = λ d e p l a. tt;
   order = λ words a. a;
+  tag_order = λ ps a. a;
 }
 
 strict_in_strict : Includes strict strict
@@ -117,6 +121,7 @@ strict_in_strict = record {
   in_pieces = λ a. a;
   inside = inside_deeper;
   order = λ words a. a;
+  tag_order = λ ps a. a;
 }
 
 pub der_deeper : (table : List Node) (d e t : ℕ) → d ≤ e → (o : List ℕ) (v : Value) → Word der table d t o v →

@@ -1,5 +1,5 @@
 -- Rows that are read.
-use Rattle.std.proofs.Common.{◌≡◌, ◌∙◌, ap, sym, subst, refl, ℕ, ◌<◌, inl, inr, Bool, true, List, [], ◌∷◌, ◌++◌, arith, append_assoc, length}
+use Rattle.std.proofs.Common.{◌≡◌, ◌∙◌, ap, sym, subst, refl, ℕ, ◌<◌, inl, inr, Bool, true, false, List, [], ◌∷◌, ◌++◌, arith, append_assoc, length}
 use Rattle.std.specs.Prelude.{◌⊎◌, ◌||◌, not, Option, None, Result, Ok, Err, OnOk, IfErr}
 use Rattle.std.specs.List.{concat}
 use Rattle.std.proofs.lemmas.List.{append-nil, length-append}
@@ -18,7 +18,8 @@ use Rattle.asn1_schema.specs.Values.{Value, Values, row, none, absent, more}
 use Rattle.asn1_schema.specs.Grammar.{Rules, Says, Begins, AreEach, AreItems, AnyOrder, AreUnknown, AreFields, LeftOut, MayStand, IsThere}
 use Rattle.asn1_schema.specs.Tape.{KeptRow, kept_row, kept_none, kept_absent, kept_more, Mark, marks, begin_mark, end_mark, absent_mark, between, value_of, values_of, tape_of, tapes_of}
 use Rattle.asn1_schema.specs.Sound.{HasTagAt, node_at, field_told, fields_told, may_be_left_out}
-use Rattle.asn1_schema.specs.Reading.{PutsValue, ReadsValue, PutsRow, ReadsRow, PutsFront, HasNoFront, ReadsFront, BeginsTagged, Leaves, LeavesOut, MayNot, IsMissing, ReadsField}
+use Rattle.asn1_schema.specs.Reading.{PutsValue, ReadsValue, PutsRow, ReadsRow, PutsFront, HasNoFront, ReadsFront, BeginsTagged, Leaves, LeavesOut, MayNot, IsMissing, ReadsField, UnlessMemory}
+use Rattle.asn1_schema.specs.Members.{ReadsLeftOut}
 use Rattle.asn1_schema.proofs.Depths.{unless, where_memory}
 use Rattle.asn1_schema.proofs.Tags.{first_holds, of_optional}
 use Rattle.asn1_schema.proofs.Strings.{AreLawfulRules}
@@ -35,6 +36,11 @@ abbrev pub join : Values → Values → Values
 join none ws = ws
 join (absent vs) ws = absent (join vs ws)
 join (more v vs) ws = more v (join vs ws)
+
+pub join_none : (vs : Values) → join vs none ≡ vs
+join_none none = refl
+join_none (absent vs) = ap absent (join_none vs)
+join_none (more v vs) = ap (more v) (join_none vs)
 
 join_more : (vs ws us : Values) → join (join vs ws) us ≡ join vs (join ws us)
 join_more none ws us = refl
@@ -75,7 +81,7 @@ grown old mid new done some s e =
     ap (λ (z : List Mark). marks old ++ z) (sym (tapes_join done some)))
 
 -- some of them more
-further : (Now Next Whole : Values → Type 0) (old mid new : List Item) (some : KeptRow) → SoFar Now Whole old mid →
+pub further : (Now Next Whole : Values → Type 0) (old mid new : List Item) (some : KeptRow) → SoFar Now Whole old mid →
     marks new ≡ marks mid ++ tapes_of some → ((vs : Values) → Next vs → Now (join (values_of some) vs)) →
     ((vs : Values) → Now vs → (ws : Values) × Next ws) → SoFar Next Whole old new
 further Now Next Whole old mid new some s e up down = record {
@@ -97,7 +103,7 @@ ended Now Whole old mid new (Ok x) s a = record {
 ended Now Whole old mid new (Err e) s a =
     unless e ((vs : Values) → Now vs → ⊥) ((vs : Values) → Whole vs → ⊥) (λ n vs w. let b = s.back vs w in n b.0 b.1) a
 
-refused : (Now Whole : Values → Type 0) (old new : List Item) → SoFar Now Whole old new →
+pub refused : (Now Whole : Values → Type 0) (old new : List Item) → SoFar Now Whole old new →
     ((ws : Values) → Now ws → ⊥) → (vs : Values) → Whole vs → ⊥
 refused Now Whole old new s not_now vs a = let b = s.back vs a in not_now b.0 b.1
 
@@ -187,13 +193,13 @@ module _ (R : Rules) (lawful : AreLawfulRules R) where
         })
 
   -- Fields.
-  may_stand : (Sub : Parts → Value → Type 0) → R.defaults_written ≡ true → (presence : Presence) (v : Value) →
+  pub may_stand : (Sub : Parts → Value → Type 0) → R.defaults_written ≡ true → (presence : Presence) (v : Value) →
       MayStand R Sub presence v
   may_stand Sub written presences.Required v = tt
   may_stand Sub written presences.Optional v = tt
   may_stand Sub written (presences.Default d) v = inl written
 
-  may_not : (Sub : Parts → Value → Type 0) (presence : Presence) (vs : Values) (Rest : Values → Type 0) →
+  pub may_not : (Sub : Parts → Value → Type 0) (presence : Presence) (vs : Values) (Rest : Values → Type 0) →
       MayNot R Sub presence → LeftOut R Sub presence vs Rest → ⊥
   may_not Sub presences.Required vs Rest n a = a
   may_not Sub presences.Optional vs Rest n a = n
@@ -214,24 +220,24 @@ module _ (R : Rules) (lawful : AreLawfulRules R) where
     }
 
     -- a field whose tag begins the octets is not left out
-    tagged_left : (unknown : Option ℕ) (f : Field) (fs : List Field) → fields_told table unknown (f ∷ fs) ≡ true →
+    tagged_left : (unknown : Option ℕ) (f : Field) (fs : List Field) → fields_told false table unknown (f ∷ fs) ≡ true →
         (octets : List ℕ) (ws : Values) → BeginsTagged R table f.of octets →
         LeftOut R (Sub f.of) f.presence ws (AreFields R Sub unknown fs octets) → ⊥
     tagged_left unknown f fs told octets ws h b =
         let d = left_rest R lawful (Sub f.of) f.presence (AreFields R Sub unknown fs octets) ws b in
-        let apart : field_told table unknown (node_at table f.of) fs ≡ true =
-        of_optional (may_be_left_out f.presence) (field_told table unknown (node_at table f.of) fs)
+        let apart : field_told false table unknown (node_at table f.of) fs ≡ true =
+        of_optional (may_be_left_out f.presence) (field_told false table unknown (node_at table f.of) fs)
         (left_may R lawful (Sub f.of) f.presence (AreFields R Sub unknown fs octets) ws b)
-        (first_holds (not (may_be_left_out f.presence) || field_told table unknown (node_at table f.of) fs)
-        (fields_told table unknown fs) told) in
+        (first_holds (not (may_be_left_out f.presence) || field_told false table unknown (node_at table f.of) fs)
+        (fields_told false table unknown fs) told) in
         no_next R lawful table Sub tag h.tagged.node.tags unknown fs octets d.0 d.1
-        (subst (λ (z : Option Node). field_told table unknown z fs ≡ true) h.tagged.found apart)
+        (subst (λ (z : Option Node). field_told false table unknown z fs ≡ true) h.tagged.found apart)
         h.word h.rest h.parts h.element h.is h.tagged.tagged
 
     module _ (unknown : Option ℕ) (Whole : Values → Type 0) (f : Field) (fs : List Field) (octets rest : List ℕ)
         (old mid new : List Item) where
       -- a field more
-      field_more : R.defaults_written ≡ true → fields_told table unknown (f ∷ fs) ≡ true →
+      field_more : R.defaults_written ≡ true → fields_told false table unknown (f ∷ fs) ≡ true →
           SoFar (AreFields R Sub unknown (f ∷ fs) octets) Whole old mid →
           PutsFront (Begins R (Sub f.of) octets) mid new rest → SoFar (AreFields R Sub unknown fs rest) Whole old new
       field_more written told s b =
@@ -287,7 +293,7 @@ module _ (R : Rules) (lawful : AreLawfulRules R) where
 
     -- a field that is missing
     no_fields : (unknown : Option ℕ) (f : Field) (fs : List Field) (octets : List ℕ) →
-        fields_told table unknown (f ∷ fs) ≡ true →
+        fields_told false table unknown (f ∷ fs) ≡ true →
         IsMissing R (Sub f.of) (BeginsTagged R table f.of octets) f.presence octets → (vs : Values) →
         AreFields R Sub unknown (f ∷ fs) octets vs → ⊥
     no_fields unknown f fs octets told m vs (inl a) =
@@ -301,12 +307,12 @@ module _ (R : Rules) (lawful : AreLawfulRules R) where
     -- The loop.
     pub fields_further : R.defaults_written ≡ true → (unknown : Option ℕ) (Whole : Values → Type 0) (left : List Field)
         (f : Field) (fs : List Field) (rest tail : List ℕ) (old mid new : List Item) → left ≡ f ∷ fs →
-        fields_told table unknown left ≡ true → SoFar (AreFields R Sub unknown left rest) Whole old mid →
+        fields_told false table unknown left ≡ true → SoFar (AreFields R Sub unknown left rest) Whole old mid →
         PutsFront (Begins R (Sub f.of) rest) mid new tail ⊎ LeavesOut R (Sub f.of) f.presence rest mid new tail →
         SoFar (AreFields R Sub unknown fs tail) Whole old new
     fields_further written unknown Whole left f fs rest tail old mid new is told s read = elim read [
       | inl b ↦ field_more unknown Whole f fs rest tail old mid new written
-          (subst (λ (z : List Field). fields_told table unknown z ≡ true) is told)
+          (subst (λ (z : List Field). fields_told false table unknown z ≡ true) is told)
           (subst (λ (z : List Field). SoFar (AreFields R Sub unknown z rest) Whole old mid) is s) b
       | inr b ↦ field_less unknown Whole f fs rest tail old mid new
           (subst (λ (z : List Field). SoFar (AreFields R Sub unknown z rest) Whole old mid) is s) b
@@ -314,14 +320,14 @@ module _ (R : Rules) (lawful : AreLawfulRules R) where
 
     pub fields_refused : (T : Type 0) (unknown : Option ℕ) (Whole : Values → Type 0) (left : List Field) (f : Field)
         (fs : List Field) (rest : List ℕ) (old mid new : List Item) (e : Fault) → left ≡ f ∷ fs →
-        fields_told table unknown left ≡ true → SoFar (AreFields R Sub unknown left rest) Whole old mid →
+        fields_told false table unknown left ≡ true → SoFar (AreFields R Sub unknown left rest) Whole old mid →
         ReadsField R (Sub f.of) (BeginsTagged R table f.of rest) f.presence rest mid new (Err e) →
         ReadsRow {T = T} Whole old new (Err e)
     fields_refused T unknown Whole left f fs rest old mid new e is told s m =
         unless e (IsMissing R (Sub f.of) (BeginsTagged R table f.of rest) f.presence rest) ((vs : Values) → Whole vs → ⊥)
         (λ n. refused (AreFields R Sub unknown (f ∷ fs) rest) Whole old mid
         (subst (λ (z : List Field). SoFar (AreFields R Sub unknown z rest) Whole old mid) is s)
-        (no_fields unknown f fs rest (subst (λ (z : List Field). fields_told table unknown z ≡ true) is told) n)) m
+        (no_fields unknown f fs rest (subst (λ (z : List Field). fields_told false table unknown z ≡ true) is told) n)) m
 
     -- the unknown elements behind the fields
     pub fields_ended : {T : Type 0} (unknown : Option ℕ) (Whole : Values → Type 0) (left : List Field) (rest : List ℕ)
@@ -374,11 +380,23 @@ module _ (R : Rules) (lawful : AreLawfulRules R) where
     pub no_tag : (t : ℕ) (octets : List ℕ) → (BeginsTagged R table t octets → ⊥) → HasNoFront (Begins R (Sub t) octets)
     no_tag t octets n v rest b = n (begun t octets v rest b)
 
-    pub field_default : (T : Type 0) (presence : Presence) (d : Vec ℕ Global) (t : ℕ) (octets : List ℕ)
-        (old mid new : List Item) (e : Fault) → presence ≡ presences.Default d → (BeginsTagged R table t octets → ⊥) →
-        ReadsValue {T = T} (Says R (Sub t) d.items) old mid (Err e) →
-        ReadsField R (Sub t) (BeginsTagged R table t octets) presence octets old new (Err e)
-    field_default T presence d t octets old mid new e is n a =
-        unless e ((v : Value) → Says R (Sub t) d.items v → ⊥)
-        (IsMissing R (Sub t) (BeginsTagged R table t octets) presence octets)
-        (λ m. record { none = no_tag t octets n; why = inr (subst (MayNot R (Sub t)) (sym is) m) }) a
+    pub field_away : (presence : Presence) (t : ℕ) (octets : List ℕ) (e : Fault) → (BeginsTagged R table t octets → ⊥) →
+        UnlessMemory e (MayNot R (Sub t) presence) →
+        UnlessMemory e (IsMissing R (Sub t) (BeginsTagged R table t octets) presence octets)
+    field_away presence t octets e n a =
+        unless e (MayNot R (Sub t) presence) (IsMissing R (Sub t) (BeginsTagged R table t octets) presence octets)
+        (λ m. record { none = no_tag t octets n; why = inr m }) a
+
+-- What is put for a field that is left out.
+module _ (R : Rules) (Sub : Parts → Value → Type 0) (presence : Presence) where
+  pub left_absent : {T : Type 0} (old new : List Item) (r : Result T Fault) → presence ≡ presences.Optional →
+      OnOk r (marks new ≡ marks old ++ absent_mark ∷ []) → IfErr r (λ e. e ≡ faults.Memory) →
+      ReadsLeftOut R Sub presence old new r
+  left_absent old new (Ok x) is put err =
+      subst (λ (z : Presence). Leaves R Sub z old new) (sym is) put
+  left_absent old new (Err e) is put err = where_memory e (MayNot R Sub presence) err
+
+  pub default_away : (d : Vec ℕ Global) (e : Fault) → presence ≡ presences.Default d →
+      UnlessMemory e ((v : Value) → Says R Sub d.items v → ⊥) → UnlessMemory e (MayNot R Sub presence)
+  default_away d e is a =
+      subst (λ (z : Presence). UnlessMemory e (MayNot R Sub z)) (sym is) a

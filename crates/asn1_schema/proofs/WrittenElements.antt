@@ -25,7 +25,7 @@ use Rattle.asn1_schema.specs.Grammar.{is_tag_of, has_tag, KindBody, Through, Bod
 use Rattle.asn1_schema.specs.Rules.{strict}
 use Rattle.asn1_schema.specs.Tape.{Mark, tape_of, value_of}
 use Rattle.asn1_schema.specs.Sound.{is_sound, is_single, are_classes, kind_told, all_told, in_order, fields_told}
-use Rattle.asn1_schema.specs.Writing.{before, NoneAtEnd, Writes, IsOneTag, constructed_of, is_tagged, plain, Nowhere, IsContent, IsFieldRow, IsList, MakesElement, id_with, Grew}
+use Rattle.asn1_schema.specs.Writing.{before, NoneAtEnd, Writes, IsOneTag, constructed_of, is_tagged, plain, Nowhere, IsContent, IsFieldRow, IsFieldSet, IsList, MakesElement, id_with, Grew}
 use Rattle.asn1_schema.proofs.Tags.{first_of_two, both_hold, first_holds, second_holds}
 use Rattle.asn1_schema.proofs.Tags.{node_told as kind_told_at}
 use Rattle.asn1_schema.proofs.WrittenLeaves.{writes_map}
@@ -51,7 +51,7 @@ classes_of table t node sound e =
 
 single_told : (table : List Node) (ts : Tags) (kind : Kind) → is_tagged kind ≡ true → kind_told table ts kind ≡ true →
     is_single ts ≡ true
-single_told table ts (kinds.Sequence fields unknown) g k = first_holds (is_single ts) (fields_told table unknown fields.items) k
+single_told table ts (kinds.Sequence fields unknown) g k = first_holds (is_single ts) (fields_told false table unknown fields.items) k
 single_told table ts (kinds.Choice arms) g k = absurd (cc)
 single_told table ts (kinds.Within t lower upper) g k = absurd (cc)
 single_told table ts kinds.Any g k = absurd (cc)
@@ -64,6 +64,7 @@ single_told table ts kinds.Octets g k = k
 single_told table ts (kinds.Identifier relative) g k = k
 single_told table ts (kinds.Text kind) g k = k
 single_told table ts (kinds.Time kind) g k = k
+single_told table ts (kinds.Set fields unknown) g k = first_holds (is_single ts) (fields_told true table unknown fields.items) k
 single_told table ts (kinds.SequenceOf t) g k = k
 single_told table ts (kinds.SetOf t) g k = k
 single_told table ts (kinds.Explicit t) g k = k
@@ -89,6 +90,7 @@ tagged_kind (kinds.Identifier relative) c w a = refl
 tagged_kind (kinds.Text kind) c w a = refl
 tagged_kind (kinds.Time kind) c w a = refl
 tagged_kind (kinds.Sequence fields unknown) c w a = refl
+tagged_kind (kinds.Set fields unknown) c w a = refl
 tagged_kind (kinds.SequenceOf t) c w a = refl
 tagged_kind (kinds.SetOf t) c w a = refl
 tagged_kind (kinds.Explicit t) c w a = refl
@@ -151,6 +153,7 @@ module _ (depth : ℕ) (Sub Same : ℕ → Parts → Value → Type 0) where
   content_moved (kinds.Time kind) p id c v e (o, is, inl s, t) = (o, is, inl (e, s.1), t)
   content_moved (kinds.Time kind) p id c v e (o, is, inr s, t) = absurd (let f = s.0 in cc)
   content_moved (kinds.Sequence fields unknown) p id c v e a = (a.0, a.1, e, a.3)
+  content_moved (kinds.Set fields unknown) p id c v e a = (a.0, a.1, e, a.3)
   content_moved (kinds.SequenceOf t) p id c v e a = (a.0, a.1, e, a.3)
   content_moved (kinds.SetOf t) p id c v e a = (a.0, a.1, e, a.3)
   content_moved (kinds.Explicit t) p id c v e a = (e, a.1)
@@ -174,6 +177,7 @@ module _ (depth : ℕ) (Sub Same : ℕ → Parts → Value → Type 0) where
   content_of (kinds.Time kind) e p v (o, is, inl s, t) = (o, is, inl (refl, s.1), t)
   content_of (kinds.Time kind) e p v (o, is, inr s, t) = absurd (let f = s.0 in cc)
   content_of (kinds.Sequence fields unknown) e p v a = (a.0, a.1, refl, a.3)
+  content_of (kinds.Set fields unknown) e p v a = (a.0, a.1, refl, a.3)
   content_of (kinds.SequenceOf t) e p v a = (a.0, a.1, refl, a.3)
   content_of (kinds.SetOf t) e p v a = (a.0, a.1, refl, a.3)
   content_of (kinds.Explicit t) e p v a = (refl, a.1)
@@ -260,12 +264,20 @@ module _ (table : List Node) (depth t : ℕ) (node : Node) (tape : List Item) (a
         },
       )
 
--- a row is the contents octets of a sequence
+-- a row is the contents octets of a sequence, or of a set
 pub row_written : (table : List Node) (depth : ℕ) (fields : Vec Field Global) (unknown : Option ℕ) (tape : List Item) (at : ℕ)
     (old new : List ℕ) (r : Result ℕ Fault) → Writes (IsFieldRow table depth unknown fields.items) tape at old new r →
     Writes (IsContent table depth (kinds.Sequence fields unknown)) tape at old new r
 row_written table depth fields unknown tape at old new r w =
     writes_map (IsFieldRow table depth unknown fields.items) (IsContent table depth (kinds.Sequence fields unknown))
+    (λ o v a. (a.0, a.1, refl, a.2)) (λ o v a. (a.0, a.1, a.3)) tape at old new r w
+
+pub any_row_written : (table : List Node) (depth : ℕ) (fields : Vec Field Global) (unknown : Option ℕ)
+    (tape : List Item) (at : ℕ) (old new : List ℕ) (r : Result ℕ Fault) →
+    Writes (IsFieldSet table depth unknown fields.items) tape at old new r →
+    Writes (IsContent table depth (kinds.Set fields unknown)) tape at old new r
+any_row_written table depth fields unknown tape at old new r w =
+    writes_map (IsFieldSet table depth unknown fields.items) (IsContent table depth (kinds.Set fields unknown))
     (λ o v a. (a.0, a.1, refl, a.2)) (λ o v a. (a.0, a.1, a.3)) tape at old new r w
 
 -- and a list those of one

@@ -82,13 +82,56 @@ omitted P d tape at rest old mid new held h w f = (
   },
 )
 
+-- A word of a field was put in front, which may stand there. Or the field is left out in front of others.
+abbrev pub IsPut : (Parts → Value → Type 0) → Presence → List Mark → List Mark → List ℕ → List ℕ → Type 0
+IsPut S presence tape rest mid new =
+    (w : PutsWord (Says strict S) tape rest mid new) × MayStand strict S presence (value_of w.kept)
+
+abbrev pub IsAway : (Parts → Value → Type 0) → Presence → KeptRow → (Values → Type 0) → List Mark → List Mark → List ℕ →
+    List ℕ → Type 0
+IsAway S presence ks Rest tape rest mid new = (js : KeptRow) × (front : List Mark) ×
+    LeftOut strict S presence (values_of js) Rest × (tape ≡ rest ++ front) × (tapes_of js ≡ front ++ tapes_of ks) ×
+    (new ≡ mid) × (members (values_of js) ≡ suc (members (values_of ks)))
+
+pub placed : (table : List Node) → is_sound table ≡ true → (depth t : ℕ) (presence : Presence) (ks : KeptRow)
+    (Rest : Values → Type 0) → Rest (values_of ks) → (tape rest : List Mark) (mid new : List ℕ) →
+    PutsField (Word strict table depth t) presence tape rest mid new →
+    IsPut (Body strict table depth t) presence tape rest mid new ⊎
+    IsAway (Body strict table depth t) presence ks Rest tape rest mid new
+placed table sound depth t presences.Required ks Rest h tape rest mid new w = inl (w, tt)
+placed table sound depth t presences.Optional ks Rest h tape rest mid new (inl w) = inl (w, tt)
+placed table sound depth t presences.Optional ks Rest h tape rest mid new (inr w) =
+    inr (kept_absent ks, absent_mark ∷ [], h, w.taken, refl, w.put, refl)
+placed table sound depth t (presences.Default d) ks Rest h tape rest mid new w = elim w.put.told [
+  | inl same ↦ inr (
+    kept_more w.kept ks,
+    tape_of w.kept,
+    (subst (λ (z : List ℕ). Word strict table depth t z (value_of w.kept)) same w.holds, h),
+    w.taken,
+    refl,
+    w.put.omitted same,
+    refl,
+  )
+  | inr differs ↦ inl (
+    record {
+      word = w.word;
+      kept = w.kept;
+      are_octets = w.are_octets;
+      holds = w.holds;
+      taken = w.taken;
+      put = w.put.kept differs;
+    },
+    inr (λ s. differs (one_word table sound depth t w.word d.items (value_of w.kept) w.holds s)),
+  )
+]
+
 -- a row whose first field is left out
-abbrev LeftParts : (Parts → Value → Type 0) → Presence → KeptRow → (Values → Type 0) → Type 0
+abbrev pub LeftParts : (Parts → Value → Type 0) → Presence → KeptRow → (Values → Type 0) → Type 0
 LeftParts S presence ks Rest =
     ((js : KeptRow) × (presence ≡ presences.Optional) × (ks ≡ kept_absent js) × Rest (values_of js)) ⊎
     ((js : KeptRow) × (k : Kept) × (d : List ℕ) × (ks ≡ kept_more k js) × Says strict S d (value_of k) × Rest (values_of js))
 
-left_parts : (S : Parts → Value → Type 0) (presence : Presence) (ks : KeptRow) (Rest : Values → Type 0) →
+pub left_parts : (S : Parts → Value → Type 0) (presence : Presence) (ks : KeptRow) (Rest : Values → Type 0) →
     LeftOut strict S presence (values_of ks) Rest → LeftParts S presence ks Rest
 left_parts S presences.Required kept_none Rest a = absurd a
 left_parts S presences.Required (kept_absent ks) Rest a = absurd a
@@ -141,54 +184,14 @@ module _ (table : List Node) (depth : ℕ) (unknown : Option ℕ) where
     refl,
   )
 
-  by_presence : is_sound table ≡ true → (f : Field) (done : List Field) (octets : List ℕ) (ks : KeptRow)
-      (tape rest : List Mark) (mid new : List ℕ) (presence : Presence) → f.presence ≡ presence →
-      Fields done octets (values_of ks) →
-      PutsField (Word strict table depth f.of) presence tape rest mid new → More f done octets ks tape rest mid new
-  by_presence sound f done octets ks tape rest mid new presences.Required p h w =
-      more_there f done octets ks tape rest mid new w
-      (subst (λ (z : Presence). MayStand strict (Sub f.of) z (value_of w.kept)) (sym p) tt) h
-  by_presence sound f done octets ks tape rest mid new presences.Optional p h (inl w) =
-      more_there f done octets ks tape rest mid new w
-      (subst (λ (z : Presence). MayStand strict (Sub f.of) z (value_of w.kept)) (sym p) tt) h
-  by_presence sound f done octets ks tape rest mid new presences.Optional p h (inr w) = (
-    [],
-    absent_mark ∷ [],
-    kept_absent,
-    below_octets [] tt,
-    inr (subst (λ (z : Presence). LeftOut strict (Sub f.of) z (absent (values_of ks))
-        (Fields done octets)) (sym p) h),
-    w.taken,
-    refl,
-    w.put,
-    refl,
-  )
-  by_presence sound f done octets ks tape rest mid new (presences.Default d) p h w = elim w.put.told [
-    | inl same ↦ (
-      [],
-      tape_of w.kept,
-      kept_more w.kept,
-      below_octets [] tt,
-      inr (subst (λ (z : Presence). LeftOut strict (Sub f.of) z (more (value_of w.kept) (values_of ks))
-          (Fields done octets)) (sym p)
-          (subst (λ (z : List ℕ). Word strict table depth f.of z (value_of w.kept)) same w.holds, h)),
-      w.taken,
-      refl,
-      w.put.omitted same,
-      refl,
-    )
-    | inr differs ↦
-        more_there f done octets ks tape rest mid new (record {
-          word = w.word;
-          kept = w.kept;
-          are_octets = w.are_octets;
-          holds = w.holds;
-          taken = w.taken;
-          put = w.put.kept differs;
-        })
-        (subst (λ (z : Presence). MayStand strict (Sub f.of) z (value_of w.kept)) (sym p)
-        (inr (λ s. differs (one_word table sound depth f.of w.word d.items (value_of w.kept) w.holds s)))) h
-  ]
+  more_placed : is_sound table ≡ true → (f : Field) (done : List Field) (octets : List ℕ) (ks : KeptRow)
+      (tape rest : List Mark) (mid new : List ℕ) → Fields done octets (values_of ks) →
+      PutsField (Word strict table depth f.of) f.presence tape rest mid new → More f done octets ks tape rest mid new
+  more_placed sound f done octets ks tape rest mid new h w =
+      elim (placed table sound depth f.of f.presence ks (Fields done octets) h tape rest mid new w) [
+        | inl a ↦ more_there f done octets ks tape rest mid new a.0 a.1 h
+        | inr a ↦ ([], a.1, λ js. a.0, below_octets [] tt, inr a.2, a.3, a.4, a.5, a.6)
+      ]
 
   -- one more is written
   pub field_written : is_sound table ≡ true → (count : ℕ) (fields left others : List Field) (f : Field) (tape : List Item)
@@ -197,8 +200,8 @@ module _ (table : List Node) (depth : ℕ) (unknown : Option ℕ) where
       WrittenSoFar table depth unknown count fields others tape at place old new
   field_written sound count fields left others f tape at rest place old mid new s l w =
       let row = s.row in
-      let m = by_presence sound f s.done row.octets row.kept (before tape rest) (before tape place) mid new f.presence refl
-      row.holds.0 w.1 in
+      let m = more_placed sound f s.done row.octets row.kept (before tape rest) (before tape place) mid new row.holds.0
+      w.1 in
       let size = row.holds.1 in
       let one = m.8 in
       record {

@@ -61,6 +61,11 @@ abbrev pub IsRow : List Part → Option ℕ → Kind → Type 0
 IsRow parts unknown (kinds.Sequence fields u) = AreParts parts fields.items × (u ≡ unknown)
 IsRow parts unknown _ = ⊥
 
+-- a set of these fields, and of such unknown elements
+abbrev pub IsSetRow : List Part → Option ℕ → Kind → Type 0
+IsSetRow parts unknown (kinds.Set fields u) = AreParts parts fields.items × (u ≡ unknown)
+IsSetRow parts unknown _ = ⊥
+
 -- a choice among the types at these places
 abbrev pub IsChoiceOf : List ℕ → Kind → Type 0
 IsChoiceOf places (kinds.Choice arms) = arms.items ≡ places
@@ -125,6 +130,8 @@ IsRetagged of inner (kinds.Enumerated ns e) (kinds.Enumerated ms f) = (ms.items 
 IsRetagged of inner (kinds.Enumerated ns e) _ = ⊥
 IsRetagged of inner (kinds.Sequence fs u) (kinds.Sequence gs w) = AreSameFields fs.items gs.items × (w ≡ u)
 IsRetagged of inner (kinds.Sequence fs u) _ = ⊥
+IsRetagged of inner (kinds.Set fs u) (kinds.Set gs w) = AreSameFields fs.items gs.items × (w ≡ u)
+IsRetagged of inner (kinds.Set fs u) _ = ⊥
 IsRetagged of inner (kinds.Choice arms) k = k ≡ kinds.Explicit of
 IsRetagged of inner kinds.Any k = k ≡ kinds.Explicit of
 IsRetagged of inner (kinds.Within t l u) k = k ≡ kinds.Within inner l u

@@ -44,6 +44,8 @@ pub record Rules : Type 1 where
   pub Inside : ℕ → Parts → Type 0
   -- the encodings of the members of a set-of (11.6)
   pub Order : List (List ℕ) → Type 0
+  -- the elements of a set (10.3)
+  pub TagOrder : List Parts → Type 0
   -- whether a value that is the default may be encoded (11.5)
   pub defaults_written : Bool
 
@@ -158,8 +160,8 @@ IsMeasured lower upper (Some n) = IsBetween lower upper n
 
 -- Lists and fields. Sub says what elements of the type at a place of the table have what values.
 
--- each word has its value
-abbrev pub AreEach : (List ℕ → Value → Type 0) → List (List ℕ) → Values → Type 0
+-- each word, or each element, has its value
+abbrev pub AreEach : {X : Type 0} → (X → Value → Type 0) → List X → Values → Type 0
 AreEach G [] none = Unit {0}
 AreEach G (w ∷ ws) (more v vs) = G w v × AreEach G ws vs
 AreEach G _ _ = ⊥
@@ -204,6 +206,43 @@ AreFields R Sub unknown (f ∷ fs) o vs =
     IsThere R (Sub f.of) f.presence o vs (AreFields R Sub unknown fs) ⊎
     LeftOut R (Sub f.of) f.presence vs (AreFields R Sub unknown fs o)
 
+-- Sets.
+
+-- One element is taken out, from wherever it stands. The others stay in their order.
+pub record Takes (all : List Parts) (one : Parts) (others : List Parts) : Type 0 where
+  pub front : List Parts
+  pub back : List Parts
+  pub is : all ≡ front ++ one ∷ back
+  pub rest : others ≡ front ++ back
+
+-- an element of a field is there
+abbrev pub HasMember : Rules → (Parts → Value → Type 0) → Presence → List Parts → Values →
+    (List Parts → Values → Type 0) → Type 0
+HasMember R Sub presence es (more v vs) Rest = (e : Parts) × (others : List Parts) × Takes es e others × Sub e v ×
+    MayStand R Sub presence v × Rest others vs
+HasMember R Sub presence es _ Rest = ⊥
+
+-- elements of no field: none, or unknown ones in the order in which they stand, where there is an extension mark
+abbrev pub AreOthers : (ℕ → Parts → Value → Type 0) → Option ℕ → List Parts → Values → Type 0
+AreOthers Sub None es vs = (es ≡ []) × (vs ≡ none)
+AreOthers Sub (Some t) es vs = AreEach (Sub t) es vs
+
+-- The elements are those of these fields, in any order (8.11.2), and unknown ones. The values are in the order of the
+-- fields.
+abbrev pub AreMembers : Rules → (ℕ → Parts → Value → Type 0) → Option ℕ → List Field → List Parts → Values → Type 0
+AreMembers R Sub unknown [] es vs = AreOthers Sub unknown es vs
+AreMembers R Sub unknown (f ∷ fs) es vs =
+    HasMember R (Sub f.of) f.presence es vs (AreMembers R Sub unknown fs) ⊎
+    LeftOut R (Sub f.of) f.presence vs (AreMembers R Sub unknown fs es)
+
+-- the octets are such elements, one behind another, in the order that the rules ask for
+pub record AreSet (R : Rules) (Sub : ℕ → Parts → Value → Type 0) (unknown : Option ℕ) (fs : List Field)
+    (octets : List ℕ) (vs : Values) : Type 0 where
+  pub elements : List Parts
+  pub joins : IsJoined R.ElementOf octets elements
+  pub members : AreMembers R Sub unknown fs elements vs
+  pub order : R.TagOrder elements
+
 -- An element of a kind has this value: Sub is of elements within it, to a depth, and Same of the element itself.
 abbrev pub KindBody : Rules → ℕ → (ℕ → Parts → Value → Type 0) → (ℕ → Parts → Value → Type 0) → Kind → Parts → Value →
     Type 0
@@ -229,6 +268,8 @@ KindBody R depth Sub Same (kinds.Time kind) p v =
 KindBody R depth Sub Same kinds.Any p v = (v ≡ leaf (any p.id p.content)) × R.Inside depth p
 KindBody R depth Sub Same (kinds.Sequence fields unknown) p v =
     (vs : Values) × (v ≡ row vs) × (p.id.constructed ≡ true) × AreFields R Sub unknown fields.items p.content vs
+KindBody R depth Sub Same (kinds.Set fields unknown) p v =
+    (vs : Values) × (v ≡ row vs) × (p.id.constructed ≡ true) × AreSet R Sub unknown fields.items p.content vs
 KindBody R depth Sub Same (kinds.SequenceOf t) p v =
     (vs : Values) × (v ≡ row vs) × (p.id.constructed ≡ true) × AreItems R (Sub t) AnyOrder p.content vs
 KindBody R depth Sub Same (kinds.SetOf t) p v =

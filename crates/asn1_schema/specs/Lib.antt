@@ -13,8 +13,11 @@ pub mod Sizes
 pub mod Sound
 pub mod Tape
 pub mod Values
+pub mod Each
 pub mod Joined
+pub mod Members
 pub mod Moments
 pub mod Owned
 pub mod Writing
 pub mod Encoding
+pub mod Differing

@@ -1,6 +1,7 @@
 -- DER, BER, and the strict encodings.
-use Rattle.std.specs.Prelude.{ℕ, zero, suc, ◌<◌, ◌≢◌, ◌≡◌, ◌⊎◌, Bool, true, false, List, [], ◌∷◌, ◌++◌, length, replicate}
+use Rattle.std.specs.Prelude.{ℕ, zero, suc, ◌<◌, ◌≢◌, ◌≡◌, ◌⊎◌, Bool, true, false, List, [], ◌∷◌, ◌++◌, length, replicate, Option, Some, None, IfSome}
 use Rattle.x690.specs.Ascending.{Ascending}
+use Rattle.x690.specs.Identifiers.{Identifier}
 use Rattle.x690.specs.Joined.{AreJoinedWords}
 use Rattle.x690.specs.Elements.{Parts, IsDerElement}
 use Rattle.x690.specs.Nested.{IsElement}
@@ -60,6 +61,24 @@ ArbitraryParts depth p = Unit {0}
 abbrev pub AnyBits : List Bool → Type 0
 AnyBits bs = Unit {0}
 
+-- The tag comes before the other: by its class, from universal over application and context-specific to private, and
+-- within a class by its number (X.680 8.6).
+abbrev pub IsTagBefore : Identifier → Identifier → Type 0
+IsTagBefore i j = (i.class < j.class) ⊎ ((i.class ≡ j.class) × (i.number < j.number))
+
+-- Elements ascend by the tags that they have, the first one behind a tag, if there is one.
+abbrev pub AscendBehind : Option Identifier → List Parts → Type 0
+AscendBehind last [] = Unit {0}
+AscendBehind last (p ∷ ps) = IfSome last (λ i. IsTagBefore i p.id) × AscendBehind (Some p.id) ps
+
+-- The order of the elements of a set (10.3). A field of a choice has its place by the tag of the arm that is there. (In
+-- the canonical order of types, X.680 8.6, the least tag of its arms counts.)
+abbrev pub TagsAscend : List Parts → Type 0
+TagsAscend = AscendBehind None
+
+abbrev pub ArbitraryTags : List Parts → Type 0
+ArbitraryTags ps = Unit {0}
+
 -- DER, but for what depends on values: defaults and the order of set-ofs (11.5, 11.6)
 abbrev pub der : Rules
 der = record {
@@ -71,6 +90,7 @@ der = record {
   in_pieces = false;
   Inside = IsStrictInside;
   Order = AnyOrder;
+  TagOrder = TagsAscend;
   defaults_written = true;
 }
 
@@ -89,5 +109,6 @@ ber max = record {
   in_pieces = true;
   Inside = ArbitraryParts;
   Order = AnyOrder;
+  TagOrder = ArbitraryTags;
   defaults_written = true;
 }

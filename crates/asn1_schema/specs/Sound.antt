@@ -1,4 +1,4 @@
--- Tables whose optional fields and arms are told apart by their tags (X.680 25.6, 29.3): a test that computes.
+-- Tables whose optional fields and arms are told apart by their tags (X.680 25.6, 27.3, 29.3): a test that computes.
 use Rattle.std.specs.Prelude.{ℕ, suc, Bool, true, false, not, List, [], ◌∷◌, ◌||◌, ◌&&◌, nat_eq, nat_lt, Option, Some, None, slice_get, ◌≡◌}
 use Rattle.std.specs.List.{list_all, list_any}
 use Rattle.asn1_schema.specs.declared.schema.TypeTag.{TypeTag}
@@ -65,22 +65,28 @@ abbrev pub apart_from_unknown : List Node → Tags → Option ℕ → Bool
 apart_from_unknown table ts None = true
 apart_from_unknown table ts (Some t) = apart_from ts (node_at table t)
 
--- no element with one of these tags begins the fields
-abbrev pub apart_from_next : List Node → Option ℕ → Tags → List Field → Bool
-apart_from_next table unknown ts [] = apart_from_unknown table ts unknown
-apart_from_next table unknown ts (f ∷ fs) =
-    apart_from ts (node_at table f.of) && (not (may_be_left_out f.presence) || apart_from_next table unknown ts fs)
+-- A field is told from what follows: each is, or each that may be left out.
+abbrev pub is_told : Bool → Presence → Bool
+is_told every presence = every || may_be_left_out presence
+
+-- No element with one of these tags begins the fields, where each that may be left out is. Or none is of any field.
+abbrev pub apart_from_next : Bool → List Node → Option ℕ → Tags → List Field → Bool
+apart_from_next every table unknown ts [] = apart_from_unknown table ts unknown
+apart_from_next every table unknown ts (f ∷ fs) =
+    apart_from ts (node_at table f.of) &&
+    (not (is_told every f.presence) || apart_from_next every table unknown ts fs)
 
 -- the field is told from what may follow, if its type is there
-abbrev pub field_told : List Node → Option ℕ → Option Node → List Field → Bool
-field_told table unknown None fs = true
-field_told table unknown (Some node) fs = apart_from_next table unknown node.tags fs
+abbrev pub field_told : Bool → List Node → Option ℕ → Option Node → List Field → Bool
+field_told every table unknown None fs = true
+field_told every table unknown (Some node) fs = apart_from_next every table unknown node.tags fs
 
--- each field that may be left out is told from what may follow it
-abbrev pub fields_told : List Node → Option ℕ → List Field → Bool
-fields_told table unknown [] = true
-fields_told table unknown (f ∷ fs) =
-    (not (may_be_left_out f.presence) || field_told table unknown (node_at table f.of) fs) && fields_told table unknown fs
+-- each field that may be left out is told from what may follow it; or each field is told from all others
+abbrev pub fields_told : Bool → List Node → Option ℕ → List Field → Bool
+fields_told every table unknown [] = true
+fields_told every table unknown (f ∷ fs) =
+    (not (is_told every f.presence) || field_told every table unknown (node_at table f.of) fs) &&
+    fields_told every table unknown fs
 
 -- none of the types has one of these tags
 abbrev pub apart_from_arms : List Node → Tags → List ℕ → Bool
@@ -120,7 +126,8 @@ are_classes (tags.AllBut ts) = are_listed_classes ts.items
 
 -- the parts of a type are told apart; all but a choice, bounds and any element have one tag
 abbrev pub kind_told : List Node → Tags → Kind → Bool
-kind_told table ts (kinds.Sequence fields unknown) = is_single ts && fields_told table unknown fields.items
+kind_told table ts (kinds.Sequence fields unknown) = is_single ts && fields_told false table unknown fields.items
+kind_told table ts (kinds.Set fields unknown) = is_single ts && fields_told true table unknown fields.items
 kind_told table ts (kinds.Choice arms) = arms_told table arms.items && arms_held table ts arms.items
 kind_told table ts (kinds.Within t lower upper) = holds ts (node_at table t)
 kind_told table ts kinds.Any = true

@@ -5,6 +5,7 @@ use Rattle.x690.specs.Octets.{IsOctets}
 use Rattle.x690.specs.Ascending.{Ascending}
 use Rattle.x690.specs.Identifiers.{Identifier}
 use Rattle.x690.specs.Elements.{Parts, IsDerElement}
+use Rattle.x690.specs.Joined.{IsJoined}
 use Rattle.x690.specs.Strict.{definite_parts}
 use Rattle.asn1_schema.specs.declared.fault.Fault.{Fault}
 use Rattle.asn1_schema.specs.declared.fault.Fault.TheVariants as faults
@@ -22,8 +23,8 @@ use Rattle.asn1_schema.specs.declared.put_bits.Pending.{Pending}
 use Rattle.asn1_schema.specs.declared.endings.StringSort.{StringSort}
 use Rattle.asn1_schema.specs.declared.endings.StringSort.TheVariants as string_sorts
 use Rattle.asn1_schema.specs.Values.{Leaf, any, bits, joined, Value, Values, leaf, row, chosen, none, absent, more, measure}
-use Rattle.asn1_schema.specs.Grammar.{KindBody, Body, AreFields, AreItems, AreEach, AnyOrder, Word, IsMeasured, has_tag, digits_2, bits_in, IsBitContent}
-use Rattle.asn1_schema.specs.Rules.{strict, IsStrictInside}
+use Rattle.asn1_schema.specs.Grammar.{KindBody, Body, AreFields, Takes, AreSet, AreItems, AreEach, AnyOrder, Word, IsMeasured, has_tag, digits_2, bits_in, IsBitContent}
+use Rattle.asn1_schema.specs.Rules.{strict, IsStrictInside, TagsAscend}
 use Rattle.asn1_schema.specs.Tape.{Kept, KeptRow, kept_none, kept_absent, kept_more, Mark, leaf_mark, pieces_mark, absent_mark, begin_mark, arm_mark, marks, value_of, values_of, tape_of, tapes_of}
 use Rattle.asn1_schema.specs.Tape.{Sort, of_octets, of_text, of_time, string}
 
@@ -145,6 +146,7 @@ IsOneTag (tags.AllBut ts) tag = ⊥
 -- whether strict elements of a kind are constructed
 abbrev pub constructed_of : Kind → Bool
 constructed_of (kinds.Sequence fields unknown) = true
+constructed_of (kinds.Set fields unknown) = true
 constructed_of (kinds.SequenceOf t) = true
 constructed_of (kinds.SetOf t) = true
 constructed_of (kinds.Explicit t) = true
@@ -183,6 +185,11 @@ abbrev pub IsFieldRow : List Node → ℕ → Option ℕ → List Field → List
 IsFieldRow table depth unknown fields content v =
     (vs : Values) × (v ≡ row vs) × AreFields strict (Body strict table depth) unknown fields content vs
 
+-- those of a set of fields and unknown elements
+abbrev pub IsFieldSet : List Node → ℕ → Option ℕ → List Field → List ℕ → Value → Type 0
+IsFieldSet table depth unknown fields content v =
+    (vs : Values) × (v ≡ row vs) × AreSet strict (Body strict table depth) unknown fields content vs
+
 -- how many fields, left out or there, or members
 abbrev pub members : Values → ℕ
 members none = 0
@@ -193,6 +200,23 @@ members (more v vs) = suc (members vs)
 abbrev pub AreCounted : List Node → ℕ → Option ℕ → ℕ → List Field → List ℕ → Values → Type 0
 AreCounted table depth unknown count fields octets vs =
     AreFields strict (Body strict table depth) unknown fields octets vs × (members vs ≡ length fields + count)
+
+abbrev pub AreCountedSet : List Node → ℕ → Option ℕ → ℕ → List Field → List ℕ → Values → Type 0
+AreCountedSet table depth unknown count fields octets vs =
+    AreSet strict (Body strict table depth) unknown fields octets vs × (members vs ≡ length fields + count)
+
+-- An element is put in its place among others that ascend by their tags; or it has none, as one has its tag.
+abbrev pub Settles : Parts → List Parts → List ℕ → List ℕ → Bool → Type 0
+Settles e es old new true = (all : List Parts) × (octets : List ℕ) × Takes all e es × TagsAscend all ×
+    IsJoined IsDerElement octets all × (new ≡ octets ++ old)
+Settles e es old new false = (all : List Parts) → Takes all e es → TagsAscend all → ⊥
+
+-- So many of the octets, which are elements, stand before the place of an element.
+abbrev pub HasRoom : Parts → List Parts → List ℕ → Option ℕ → Type 0
+HasRoom e es octets (Some n) = (front back : List Parts) × (one other : List ℕ) × (es ≡ front ++ back) ×
+    TagsAscend (front ++ e ∷ back) × IsJoined IsDerElement one front × IsJoined IsDerElement other back ×
+    (octets ≡ one ++ other) × (n ≡ length one)
+HasRoom e es octets None = (all : List Parts) → Takes all e es → TagsAscend all → ⊥
 
 -- Fields that are left are to be written yet; those behind them are.
 pub record WrittenSoFar (table : List Node) (depth : ℕ) (unknown : Option ℕ) (count : ℕ) (fields left : List Field)

@@ -3,7 +3,7 @@ ghost use Rattle.std.specs.Prelude.{IsTrue, slice_set, slice_get, List, [], ◌�
 ghost use Rattle.std.specs.Prelude.{◌<◌, ◌≤◌, ◌||◌, ◌&&◌, not, IfOk, IfErr, OnOk, OnErr, map, Some, None, true, false};
 ghost use Rattle.asn1_schema.specs.declared.schema.Kind.TheVariants as kinds;
 ghost use Rattle.asn1_schema.specs.declared.build.BuildError.TheVariants as errors;
-ghost use Rattle.asn1_schema.specs.Build.{IsOf, IsLike, IsRow, IsListed, universal, text_number};
+ghost use Rattle.asn1_schema.specs.Build.{IsOf, IsLike, IsRow, IsSetRow, IsListed, universal, text_number};
 ghost use Rattle.asn1_schema.specs.Build.{AreParts};
 ghost use Rattle.asn1_schema.specs.Grammar.{has_tag, is_tag_of};
 ghost use Rattle.asn1_schema.specs.Build.{IsPresence, IsAnyNode, IsBounded, IsChoiceOf, IsUnder, IsDefined};
@@ -476,6 +476,52 @@ impl<'n> Schema<'n> {
         let tags = self.last_tags(parts)?;
         let unknown = self.unknown(tags)?;
         self.row(name, parts, Some(unknown))
+    }
+
+    /// SET of these fields, and of unknown elements of the type at a place, if one is given.
+    fn set_row(
+        &mut self,
+        name: &'n str,
+        parts: &[Part<'n>],
+        unknown: Option<usize>,
+    ) -> Result<usize, BuildError>
+        ensures { Puts self.old.nodes.items self.new.nodes.items
+            (IsLike (universal 17) (IsSetRow parts.now unknown)) result }
+    {
+        self.check_parts(parts)?;
+        let labels = part_names(self.alloc, parts)?;
+        let fields = fields_of(self.alloc, parts)?;
+        self.tagged(name, universal(17), Kind::Set(fields, unknown), labels)
+    }
+
+    /// SET of these fields, which stand in any order by BER, and by DER in the order of their tags.
+    pub fn set(&mut self, name: &'n str, parts: &[Part<'n>]) -> Result<usize, BuildError>
+        ensures { Puts self.old.nodes.items self.new.nodes.items
+            (IsLike (universal 17) (IsSetRow parts.now None)) result }
+    {
+        self.set_row(name, parts, None)
+    }
+
+    /// The tags of all fields.
+    fn all_tags(&self, parts: &[Part<'_>]) -> Result<Tags, BuildError>
+        ensures { IfOk result (AreTagsOf self.now.nodes.items (map (λ p. p.of) parts.now)) }
+    {
+        let mut tags = Tags::Among(Vec::new(self.alloc));
+        for part in parts {
+            self.check_place(part.of)?;
+            tags = self.with_type(tags, part.of)?;
+        }
+        Ok(tags)
+    }
+
+    /// SET of these fields and an extension mark. Unknown elements may be there, but none with the tag of a field.
+    pub fn open_set(&mut self, name: &'n str, parts: &[Part<'n>]) -> Result<usize, BuildError>
+        ensures { PutsOpen self.old.nodes.items self.new.nodes.items (map (λ p. p.of) parts.now)
+            (λ unknown. IsLike (universal 17) (IsSetRow parts.now (Some unknown))) result }
+    {
+        let tags = self.all_tags(parts)?;
+        let unknown = self.unknown(tags)?;
+        self.set_row(name, parts, Some(unknown))
     }
 
     /// Any one element but the end of contents octets.

@@ -83,6 +83,7 @@ pub(crate) fn retagged(
         Kind::Identifier(relative) => Kind::Identifier(*relative),
         Kind::Text(text) => Kind::Text(*text),
         Kind::Time(time) => Kind::Time(*time),
+        Kind::Set(fields, unknown) => Kind::Set(copied_fields(alloc, fields)?, *unknown),
         Kind::SequenceOf(member) => Kind::SequenceOf(*member),
         Kind::SetOf(member) => Kind::SetOf(*member),
         Kind::Explicit(within) => Kind::Explicit(*within),

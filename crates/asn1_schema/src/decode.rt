@@ -20,17 +20,22 @@ use crate::schema::Node;
 use crate::tape::Item;
 
 /// Why octets are not decoded. Where and why they are refused stands in the [`Refusal`] beside it.
-#[derive(Debug, Clone, Copy, PartialEq, Eq)]
+#[derive(Debug, Clone, Copy, PartialEq, Eq, thiserror::Error)]
 pub enum DecodeError {
     /// Memory ran out: no other items were put on the tape.
+    #[error("out of memory")]
     OutOfMemory,
     /// No word of the type begins the octets.
+    #[error("no value of the type begins the octets")]
     Refused,
     /// No word of the type begins the octets whose elements nest to the depth: they nest deeper.
+    #[error("elements nest too deep")]
     TooDeep,
     /// The element at the front is cut: so many octets are missing at least.
+    #[error("{0} octets are missing")]
     Incomplete(usize),
     /// A word of the type begins the octets, and others follow.
+    #[error("octets follow the value")]
     TrailingOctets,
 }
 

@@ -15,11 +15,13 @@ use asn1_headers::buffer::{DerBuffer, keep_last};
 use std::alloc::{AllocError, Global};
 
 /// Why a tape is not written.
-#[derive(Debug, Clone, Copy, PartialEq, Eq)]
+#[derive(Debug, Clone, Copy, PartialEq, Eq, thiserror::Error)]
 pub enum EncodeError {
     /// Memory ran out.
+    #[error("out of memory")]
     OutOfMemory,
     /// The tape is that of no value of the type that has a strict encoding.
+    #[error("the tape has no value of the type with a strict encoding")]
     Refused,
 }
 

@@ -65,6 +65,7 @@ pub(crate) fn is_constructed(kind: &Kind) -> bool
 {
     match kind {
         Kind::Sequence(_, _) => true,
+        Kind::Set(_, _) => true,
         Kind::SequenceOf(_) => true,
         Kind::SetOf(_) => true,
         Kind::Explicit(_) => true,

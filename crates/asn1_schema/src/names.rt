@@ -2,6 +2,8 @@
 ghost use Rattle.std.specs.Prelude.{◌≡◌, ◌≢◌, IfSome, IfNone, true, false};
 ghost use Rattle.asn1_schema.specs.Names.{IsPlaceOf, LacksName};
 
+use std::fmt;
+
 /// A name, and the number that it stands for.
 ///
 /// The name of a field or an arm stands for its place among them. The name of a listed number, or of a number of an
@@ -50,4 +52,36 @@ pub fn place_of(labels: &[PartName<'_>], name: &str) -> Option<usize>
         }
     }
     None
+}
+
+/// Writes the name of a type, or its place where it has none.
+pub(crate) fn write_type<W: fmt::Write>(
+    f: &mut fmt::Formatter<W>,
+    names: &[TypeNames<'_>],
+    of: usize,
+) -> fmt::Result {
+    if let Some(own) = names.get(of) {
+        if !own.name.is_empty() {
+            let name = own.name;
+            return write!(f, "{name}");
+        }
+    }
+    write!(f, "type {of}")
+}
+
+/// Writes the name of a part of a type, or its place where it has none.
+pub(crate) fn write_part<W: fmt::Write>(
+    f: &mut fmt::Formatter<W>,
+    own: Option<&TypeNames<'_>>,
+    part: usize,
+) -> fmt::Result {
+    if let Some(own) = own {
+        for label in &own.labels {
+            if label.number == part as i128 {
+                let name = label.name;
+                return write!(f, "{name}");
+            }
+        }
+    }
+    write!(f, "{part}")
 }

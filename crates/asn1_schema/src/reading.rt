@@ -1,9 +1,12 @@
 //! One reader for all types of all sound tables, by DER and by BER.
-ghost use Rattle.std.specs.Prelude.{ℕ, ◌≡◌, ◌<◌, true, length, IfOk};
+ghost use Rattle.std.specs.Prelude.{ℕ, List, ◌≡◌, ◌<◌, true, false, length, IfOk};
 ghost use Rattle.asn1_schema.specs.Sound.{is_sound, fields_told, arms_told, all_before};
 ghost use Rattle.asn1_schema.specs.Reading.{rules_of, parts_of, IsBody, IsArmOf, AreFieldsOf, AreItemsOf};
 ghost use Rattle.asn1_schema.specs.Reading.{IsRowOf, IsWordOf, BeginsWord, ReadsValue, ReadsRow, ReadsFront};
 ghost use Rattle.asn1_schema.specs.Reading.{ReadsField, BeginsTagged, HoldsAt};
+ghost use Rattle.asn1_schema.specs.Members.{AreElements, IsSetOf, AreMembersOf, AreOthersOf};
+ghost use Rattle.asn1_schema.specs.Members.{ReadsLeftOut, ReadsMember, ReadsOther, others_than};
+ghost use Rattle.x690.specs.Elements.{Parts};
 
 use crate::any::any_item;
 use crate::bounds::judge_bounds;
@@ -18,6 +21,7 @@ use crate::pieces::{Sort, read_string};
 use crate::refusal::{Reason, Refusal, further};
 use crate::rows::{close_row, open_row, put_item};
 use crate::schema::{Field, Kind, Node, Presence};
+use crate::sets::{Found, find_alone, is_of_a_field, judge_order};
 use crate::tagged::{arm_of, has_a_tag, node_at, tagged_element};
 use crate::tape::Item;
 
@@ -53,6 +57,21 @@ fn read_body<'a>(
     match &node.kind {
         Kind::Sequence(fields, unknown) => {
             read_row(
+                coding,
+                nodes,
+                depth - 1,
+                fields,
+                *unknown,
+                of,
+                head.constructed,
+                content,
+                head.inner,
+                tape,
+                refusal,
+            )
+        }
+        Kind::Set(fields, unknown) => {
+            read_set(
                 coding,
                 nodes,
                 depth - 1,
@@ -281,7 +300,7 @@ fn read_row<'a>(
     refusal: &mut Refusal,
 ) -> Result<(), Fault>
     requires sound { is_sound nodes.now ≡ true }
-    requires told { fields_told nodes.now unknown fields.now ≡ true }
+    requires told { fields_told false nodes.now unknown fields.now ≡ true }
     ensures { (d : ℕ) → HoldsAt depth result d →
         ReadsValue (IsRowOf coding nodes.now d unknown fields.now constructed octets.now)
         tape.old.items tape.new.items result }
@@ -316,7 +335,7 @@ fn read_fields<'a>(
     refusal: &mut Refusal,
 ) -> Result<(), Fault>
     requires sound { is_sound nodes.now ≡ true }
-    requires told { fields_told nodes.now unknown fields.now ≡ true }
+    requires told { fields_told false nodes.now unknown fields.now ≡ true }
     ensures { (d : ℕ) → HoldsAt depth result d →
         ReadsRow (AreFieldsOf coding nodes.now d unknown fields.now octets.now)
         tape.old.items tape.new.items result }
@@ -430,23 +449,215 @@ fn read_field<'a>(
             Err(e) => Err(e),
         };
     }
+    match read_left_out(coding, nodes, depth, field, at, tape, refusal) {
+        Ok(()) => Ok(octets),
+        Err(e) => Err(e),
+    }
+}
+
+/// Puts on the tape that a field is left out, or its default.
+#[cycle(reading)]
+fn read_left_out<'a>(
+    coding: Coding,
+    nodes: &'a [Node],
+    depth: usize,
+    field: &'a Field,
+    at: usize,
+    tape: &mut Vec<Item<'a>>,
+    refusal: &mut Refusal,
+) -> Result<(), Fault>
+    requires { is_sound nodes.now ≡ true }
+    ensures { (d : ℕ) → HoldsAt depth result d →
+        ReadsLeftOut (rules_of coding) (IsBody coding nodes.now d field.now.of) field.now.presence
+        tape.old.items tape.new.items result }
+{
     match &field.presence {
         Presence::Required => {
             refusal.tell(at, field.of, Reason::MissingField);
             Err(Fault::Refused)
         }
-        Presence::Optional => match put_item(tape, Item::Absent) {
-            Ok(()) => Ok(octets),
-            Err(e) => Err(e),
-        },
+        Presence::Optional => put_item(tape, Item::Absent),
         Presence::Default(default) => {
             match read_whole(coding, nodes, depth, field.of, default, at, tape, refusal) {
-                Ok(()) => Ok(octets),
+                Ok(()) => Ok(()),
                 Err(e) => {
                     refusal.tell(at, field.of, Reason::Default);
                     Err(e)
                 }
             }
+        }
+    }
+}
+
+/// Puts a set on the tape: the values of the fields, in their order, and unknown elements that the contents octets are.
+#[cycle(reading)]
+fn read_set<'a>(
+    coding: Coding,
+    nodes: &'a [Node],
+    depth: usize,
+    fields: &'a [Field],
+    unknown: Option<usize>,
+    of: usize,
+    constructed: bool,
+    octets: &'a [u8],
+    at: usize,
+    tape: &mut Vec<Item<'a>>,
+    refusal: &mut Refusal,
+) -> Result<(), Fault>
+    requires sound { is_sound nodes.now ≡ true }
+    requires told { fields_told true nodes.now unknown fields.now ≡ true }
+    ensures { (d : ℕ) → HoldsAt depth result d →
+        ReadsValue (IsSetOf coding nodes.now d unknown fields.now constructed octets.now)
+        tape.old.items tape.new.items result }
+{
+    if !constructed {
+        refusal.tell(at, of, Reason::Form);
+        return Err(Fault::Refused);
+    }
+    if !judge_order(coding, of, octets, at, refusal) {
+        return Err(Fault::Refused);
+    }
+    match open_row(tape) {
+        Ok(place) => match read_members(
+            coding, nodes, depth, fields, unknown, of, octets, at, tape, refusal,
+        ) {
+            Ok(()) => close_row(tape, place),
+            Err(e) => Err(e),
+        },
+        Err(e) => Err(e),
+    }
+}
+
+/// Puts the values of the fields of a set, in their order, and unknown elements on the tape.
+#[cycle(reading)]
+fn read_members<'a>(
+    coding: Coding,
+    nodes: &'a [Node],
+    depth: usize,
+    fields: &'a [Field],
+    unknown: Option<usize>,
+    of: usize,
+    octets: &'a [u8],
+    at: usize,
+    tape: &mut Vec<Item<'a>>,
+    refusal: &mut Refusal,
+) -> Result<(), Fault>
+    requires sound { is_sound nodes.now ≡ true }
+    requires told { fields_told true nodes.now unknown fields.now ≡ true }
+    ensures { (es : List Parts) → AreElements coding octets.now es → (d : ℕ) →
+        HoldsAt depth result d →
+        ReadsRow (AreMembersOf coding nodes.now d unknown fields.now es)
+        tape.old.items tape.new.items result }
+{
+    let mut left = fields;
+    while let Some((field, others)) = left.split_first() {
+        match read_member(coding, nodes, depth, field, octets, at, tape, refusal) {
+            Ok(()) => (),
+            Err(e) => {
+                refusal.tell_field(fields.len().saturating_sub(left.len()));
+                return Err(e);
+            }
+        }
+        left = others;
+    }
+    read_others(
+        coding, nodes, depth, fields, unknown, of, octets, at, tape, refusal,
+    )
+}
+
+/// Puts the value of a field of a set on the tape, or that it is left out.
+#[cycle(reading)]
+fn read_member<'a>(
+    coding: Coding,
+    nodes: &'a [Node],
+    depth: usize,
+    field: &'a Field,
+    octets: &'a [u8],
+    at: usize,
+    tape: &mut Vec<Item<'a>>,
+    refusal: &mut Refusal,
+) -> Result<(), Fault>
+    requires { is_sound nodes.now ≡ true }
+    ensures { (es : List Parts) → AreElements coding octets.now es → (d : ℕ) →
+        HoldsAt depth result d →
+        ReadsMember (rules_of coding) nodes.now field.now.of (IsBody coding nodes.now d field.now.of)
+        field.now.presence es tape.old.items tape.new.items result }
+{
+    match find_alone(coding, nodes, field.of, octets, at) {
+        Found::One(head, content) => {
+            read_body(coding, nodes, depth, field.of, head, content, tape, refusal)
+        }
+        Found::Nothing => read_left_out(coding, nodes, depth, field, at, tape, refusal),
+        Found::Several(place) => {
+            refusal.tell(place, field.of, Reason::Repeated);
+            Err(Fault::Refused)
+        }
+    }
+}
+
+/// Puts the elements of a set that are of no field on the tape.
+#[cycle(reading)]
+fn read_others<'a>(
+    coding: Coding,
+    nodes: &'a [Node],
+    depth: usize,
+    fields: &[Field],
+    unknown: Option<usize>,
+    of: usize,
+    octets: &'a [u8],
+    at: usize,
+    tape: &mut Vec<Item<'a>>,
+    refusal: &mut Refusal,
+) -> Result<(), Fault>
+    requires { is_sound nodes.now ≡ true }
+    ensures { (es : List Parts) → AreElements coding octets.now es → (d : ℕ) →
+        HoldsAt depth result d →
+        ReadsRow (AreOthersOf coding nodes.now d unknown (others_than nodes.now fields.now es))
+        tape.old.items tape.new.items result }
+{
+    let mut rest = octets;
+    while let Some((tail, head, content)) = element(
+        coding,
+        rest,
+        further(at, octets.len(), rest.len()),
+    ) {
+        match read_other(
+            coding, nodes, depth, fields, unknown, of, head, content, tape, refusal,
+        ) {
+            Ok(()) => rest = tail,
+            Err(e) => return Err(e),
+        }
+    }
+    Ok(())
+}
+
+/// Puts an element on the tape where it is of no field: an unknown one, behind an extension mark.
+#[cycle(reading)]
+fn read_other<'a>(
+    coding: Coding,
+    nodes: &'a [Node],
+    depth: usize,
+    fields: &[Field],
+    unknown: Option<usize>,
+    of: usize,
+    head: Head,
+    content: &'a [u8],
+    tape: &mut Vec<Item<'a>>,
+    refusal: &mut Refusal,
+) -> Result<(), Fault>
+    requires { is_sound nodes.now ≡ true }
+    ensures { (d : ℕ) → HoldsAt depth result d →
+        ReadsOther coding nodes.now d unknown fields.now (parts_of head content.now)
+        tape.old.items tape.new.items result }
+{
+    if is_of_a_field(nodes, fields, head) {
+        return Ok(());
+    }
+    match unknown {
+        Some(inner) => read_body(coding, nodes, depth, inner, head, content, tape, refusal),
+        None => {
+            refusal.tell(head.start, of, Reason::TrailingOctets);
+            Err(Fault::Refused)
         }
     }
 }

@@ -4,31 +4,50 @@ ghost use Rattle.asn1_schema.specs.declared.fault.Fault.TheVariants as faults;
 ghost use Rattle.asn1_schema.specs.declared.refusal.Reason.TheVariants as reasons;
 
 use crate::fault::Fault;
+use crate::names::{TypeNames, write_part, write_type};
+use std::fmt;
 
 /// Why octets are refused.
-#[derive(Debug, Clone, Copy, PartialEq, Eq)]
+#[derive(Debug, Clone, Copy, PartialEq, Eq, thiserror::Error)]
 pub enum Reason {
     /// Nothing was refused.
+    #[error("nothing is refused")]
     Nothing,
     /// Elements nest deeper than the caller allows.
+    #[error("elements nest too deep")]
     Depth,
     /// The table has no such type.
+    #[error("the table has no such type")]
     MissingType,
     /// No element begins there (X.690 8.1): it is cut, or its header is none by the rules.
+    #[error("no element begins here, or it is cut")]
     Element,
     /// The element has a tag that the type does not have.
+    #[error("the tag is not one of the type")]
     Tag,
     /// The element is primitive where the type asks for a constructed one.
+    #[error("the element is primitive, and the type is constructed")]
     Form,
     /// The contents octets have no value of the type by the rules.
+    #[error("the contents octets have no value of the type")]
     Contents,
     /// The number or the size is out of bounds (X.680 51.4, 51.5).
+    #[error("the number or the size is out of bounds")]
     Bounds,
     /// A field is not there that may not be left out.
+    #[error("a component is missing")]
     MissingField,
+    /// The elements of a set do not ascend by their tags (X.690 10.3).
+    #[error("the elements of a set do not ascend by their tags")]
+    Order,
+    /// A field of a set is there more than once.
+    #[error("a component stands there more than once")]
+    Repeated,
     /// The default of a field that is left out is no value of its type: the table is at fault.
+    #[error("the default is no value of its type")]
     Default,
     /// Octets follow where none may.
+    #[error("octets follow where none may")]
     TrailingOctets,
 }
 
@@ -39,13 +58,48 @@ pub struct Refusal {
     pub octet: usize,
     /// The place of the type in the table.
     pub of: usize,
-    /// The field, by its place in the innermost sequence.
+    /// The field, by its place in the innermost sequence or set.
     pub field: Option<usize>,
     /// Why.
     pub reason: Reason,
 }
 
+/// A refusal as one line, by the names of a table where it has them.
+#[derive(Debug, Clone, Copy)]
+pub struct RefusalByName<'s, 'n> {
+    /// The refusal.
+    pub refusal: Refusal,
+    /// The names of the types, each at the place of its type. There may be none.
+    pub names: &'s [TypeNames<'n>],
+}
+
+impl fmt::Display for RefusalByName<'_, '_> {
+    fn fmt<W: fmt::Write>(&self, f: &mut fmt::Formatter<W>) -> fmt::Result {
+        let Refusal {
+            octet,
+            of,
+            field,
+            reason,
+        } = self.refusal;
+        write!(f, "octet {octet}, ")?;
+        write_type(f, self.names, of)?;
+        if let Some(field) = field {
+            write!(f, ".")?;
+            write_part(f, self.names.get(of), field)?;
+        }
+        write!(f, ": {reason}")
+    }
+}
+
 impl Refusal {
+    /// The refusal as one line by these names: the octet, the type, the field of it, and the reason.
+    pub fn by_name<'s, 'n>(self, names: &'s [TypeNames<'n>]) -> RefusalByName<'s, 'n> {
+        RefusalByName {
+            refusal: self,
+            names,
+        }
+    }
+
     /// Nothing is refused yet.
     pub fn none() -> Refusal
         ensures { result.octet ≡ 0 }

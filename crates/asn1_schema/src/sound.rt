@@ -1,4 +1,5 @@
-//! Whether a table is sound: its optional fields and its arms are told apart by their tags (X.680 25.6, 29.3).
+//! Whether a table is sound: its optional fields, the fields of sets and arms are told apart by their tags (X.680 25.6,
+//! 27.3, 29.3).
 ghost use Rattle.std.specs.Prelude.{◌≡◌, ◌||◌, ◌&&◌, not, is_none};
 ghost use Rattle.asn1_schema.specs.Sound as spec;
 
@@ -114,6 +115,13 @@ fn may_be_left_out(presence: &Presence) -> bool
     }
 }
 
+/// Whether a field is told from what follows it: each is, or each that may be left out.
+fn is_told(every: bool, presence: &Presence) -> bool
+    ensures { result ≡ spec.is_told every presence.now }
+{
+    every || may_be_left_out(presence)
+}
+
 /// What tags have in common with the type at a place, if there is one.
 fn meeting_at(table: &[Node], tags: &Tags, of: usize) -> Option<Shared>
     ensures { is_none result ≡ spec.apart_from tags.now (spec.node_at table.now of) }
@@ -149,14 +157,15 @@ fn unknown_meeting(table: &[Node], tags: &Tags, unknown: Option<usize>) -> Optio
     }
 }
 
-/// What an element with one of these tags has in common with those that may begin the fields.
+/// What an element with one of these tags has in common with those that may begin the fields, or with any of theirs.
 fn next_meeting(
+    every: bool,
     table: &[Node],
     unknown: Option<usize>,
     tags: &Tags,
     fields: &[Field],
 ) -> Option<Follower>
-    ensures { is_none result ≡ spec.apart_from_next table.now unknown tags.now fields.now }
+    ensures { is_none result ≡ spec.apart_from_next every table.now unknown tags.now fields.now }
 {
     let mut left = fields;
     while let Some((field, others)) = left.split_first() {
@@ -164,7 +173,7 @@ fn next_meeting(
             let place = Some(fields.len().saturating_sub(left.len()));
             return Some(Follower { place, shared });
         }
-        if !may_be_left_out(&field.presence) {
+        if !is_told(every, &field.presence) {
             return None;
         }
         left = others;
@@ -172,22 +181,23 @@ fn next_meeting(
     unknown_meeting(table, tags, unknown)
 }
 
-/// What a field that may be left out has in common with what may follow it.
+/// What a field that is told from what may follow it has in common with that.
 fn field_meeting(
+    every: bool,
     table: &[Node],
     unknown: Option<usize>,
     field: &Field,
     others: &[Field],
 ) -> Option<Follower>
-    ensures { is_none result ≡ (not (spec.may_be_left_out field.now.presence)
-        || spec.field_told table.now unknown (spec.node_at table.now field.now.of) others.now) }
+    ensures { is_none result ≡ (not (spec.is_told every field.now.presence)
+        || spec.field_told every table.now unknown (spec.node_at table.now field.now.of) others.now) }
 {
-    if !may_be_left_out(&field.presence) {
+    if !is_told(every, &field.presence) {
         return None;
     }
     match node_at(table, field.of) {
         None => None,
-        Some(node) => next_meeting(table, unknown, &node.tags, others),
+        Some(node) => next_meeting(every, table, unknown, &node.tags, others),
     }
 }
 
@@ -203,13 +213,18 @@ fn follower_fault(field: usize, follower: Follower) -> TypeFault {
     }
 }
 
-/// The first field that may be left out and is not told from what may follow it.
-fn fields_fault(table: &[Node], unknown: Option<usize>, fields: &[Field]) -> Option<TypeFault>
-    ensures { is_none result ≡ spec.fields_told table.now unknown fields.now }
+/// The first field that is to be told from what may follow it, and is not.
+fn fields_fault(
+    every: bool,
+    table: &[Node],
+    unknown: Option<usize>,
+    fields: &[Field],
+) -> Option<TypeFault>
+    ensures { is_none result ≡ spec.fields_told every table.now unknown fields.now }
 {
     let mut left = fields;
     while let Some((field, others)) = left.split_first() {
-        if let Some(follower) = field_meeting(table, unknown, field, others) {
+        if let Some(follower) = field_meeting(every, table, unknown, field, others) {
             let place = fields.len().saturating_sub(left.len());
             return Some(follower_fault(place, follower));
         }
@@ -310,18 +325,19 @@ fn tag_fault(tags: &Tags) -> Option<TypeFault>
     Some(TypeFault::NotOneTag)
 }
 
-/// What is wrong with a sequence.
-fn sequence_fault(
+/// What is wrong with a sequence, or with a set, of which every field is told from all others.
+fn row_fault(
+    every: bool,
     table: &[Node],
     tags: &Tags,
     fields: &[Field],
     unknown: Option<usize>,
 ) -> Option<TypeFault>
     ensures { is_none result ≡
-        (spec.is_single tags.now && spec.fields_told table.now unknown fields.now) }
+        (spec.is_single tags.now && spec.fields_told every table.now unknown fields.now) }
 {
     if is_single(tags) {
-        return fields_fault(table, unknown, fields);
+        return fields_fault(every, table, unknown, fields);
     }
     Some(TypeFault::NotOneTag)
 }
@@ -345,7 +361,8 @@ fn kind_fault(table: &[Node], tags: &Tags, kind: &Kind) -> Option<TypeFault>
     ensures { is_none result ≡ spec.kind_told table.now tags.now kind.now }
 {
     match kind {
-        Kind::Sequence(fields, unknown) => sequence_fault(table, tags, fields, *unknown),
+        Kind::Sequence(fields, unknown) => row_fault(false, table, tags, fields, *unknown),
+        Kind::Set(fields, unknown) => row_fault(true, table, tags, fields, *unknown),
         Kind::Choice(arms) => choice_fault(table, tags, arms),
         Kind::Within(of, _, _) => {
             if holds(table, tags, *of) {
@@ -446,10 +463,10 @@ pub fn why_unsound(table: &[Node]) -> Option<Unsound>
 /// Whether a table is sound.
 ///
 /// Fields that may be left out are told from what may follow them, by class and number. That is each field up to the
-/// next one that is required, and unknown elements behind an extension mark. Arms are told from one another, and a choice has the tags of
-/// its arms. All but a choice, bounds and elements of any type have one tag. A choice and bounds stand behind the types
-/// that they lead to, so none leads to itself. Classes are below 4. A place at which there is no type tells nothing:
-/// what leads there has no value.
+/// next one that is required, and unknown elements behind an extension mark. All fields and unknown elements of a set
+/// are told from one another. So are arms, and a choice has the tags of its arms. All but a choice, bounds and elements
+/// of any type have one tag. A choice and bounds stand behind the types that they lead to, so none leads to itself.
+/// Classes are below 4. A place at which there is no type tells nothing: what leads there has no value.
 pub fn is_sound(table: &[Node]) -> bool
     ensures { result ≡ spec.is_sound table.now }
 {

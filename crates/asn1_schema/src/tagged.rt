@@ -3,6 +3,7 @@ ghost use Rattle.std.specs.Prelude.{ℕ, ◌≡◌, Some, None, slice_get, IfSom
 ghost use Rattle.std.specs.List.{list_any};
 ghost use Rattle.asn1_headers.specs.Answers.{Front};
 ghost use Rattle.asn1_schema.specs.Grammar.{has_tag, is_tag_of};
+ghost use Rattle.asn1_schema.specs.Build.{has_tag_at};
 ghost use Rattle.asn1_schema.specs.Sound.{HasTagAt};
 ghost use Rattle.asn1_schema.specs.Reading.{rules_of, id_of, parts_of, BeginsTagged};
 
@@ -37,7 +38,8 @@ pub(crate) fn node_at(nodes: &[Node], of: usize) -> Option<&Node>
 }
 
 /// Whether the type at a place has the tag.
-fn is_tagged(nodes: &[Node], of: usize, head: Head) -> bool
+pub(crate) fn is_tagged(nodes: &[Node], of: usize, head: Head) -> bool
+    ensures value { result ≡ has_tag_at nodes.now (id_of head) of }
     ensures yes { IsTrue result → HasTagAt nodes.now of (id_of head) }
     ensures no { HasTagAt nodes.now of (id_of head) → IsTrue result }
 {

@@ -1,6 +1,6 @@
 //! Why a table is not sound, in numbers and in names.
 
-use crate::names::TypeNames;
+use crate::names::{TypeNames, write_part, write_type};
 use crate::schema::TypeTag;
 use std::fmt;
 
@@ -20,9 +20,11 @@ pub enum TypeFault {
     Class(TypeTag),
     /// The type does not have one tag.
     NotOneTag,
-    /// A field may be left out, and another one that may follow it has a tag in common with it (X.680 25.6).
+    /// A field may be left out, and another one that may follow it has a tag in common with it (X.680 25.6). Or two
+    /// fields of a set have one in common (X.680 27.3).
     Fields(usize, usize, Shared),
-    /// A field may be left out, and the unknown elements that may follow it have a tag in common with it.
+    /// A field may be left out, and the unknown elements that may follow it have a tag in common with it. In a set no
+    /// field may have one.
     Unknown(usize, Shared),
     /// Two arms have a tag in common (X.680 29.3).
     Arms(usize, usize, Shared),
@@ -85,38 +87,6 @@ impl fmt::Display for TypeTag {
             class => write!(f, "{number} of class {class}"),
         }
     }
-}
-
-/// Writes the name of a type, or its place where it has none.
-fn write_type<W: fmt::Write>(
-    f: &mut fmt::Formatter<W>,
-    names: &[TypeNames<'_>],
-    of: usize,
-) -> fmt::Result {
-    if let Some(own) = names.get(of) {
-        if !own.name.is_empty() {
-            let name = own.name;
-            return write!(f, "{name}");
-        }
-    }
-    write!(f, "type {of}")
-}
-
-/// Writes the name of a part of a type, or its place where it has none.
-fn write_part<W: fmt::Write>(
-    f: &mut fmt::Formatter<W>,
-    own: Option<&TypeNames<'_>>,
-    part: usize,
-) -> fmt::Result {
-    if let Some(own) = own {
-        for label in &own.labels {
-            if label.number == part as i128 {
-                let name = label.name;
-                return write!(f, "{name}");
-            }
-        }
-    }
-    write!(f, "{part}")
 }
 
 /// Writes two parts of a type, and what they have in common.

@@ -6,11 +6,11 @@ ghost use Rattle.asn1_schema.specs.Grammar.{Word};
 ghost use Rattle.asn1_schema.specs.Rules.{strict};
 ghost use Rattle.asn1_schema.specs.Writing.{Writes, WritesRow, WritesField, WritesDefault, is_tagged};
 ghost use Rattle.asn1_schema.specs.Writing.{IsContent, IsArm, IsWithinBounds, IsFieldRow, IsList, AreCounted};
-ghost use Rattle.asn1_schema.specs.Writing.{AreCountedItems};
+ghost use Rattle.asn1_schema.specs.Writing.{AreCountedItems, IsFieldSet, AreCountedSet};
 
 use crate::endings::{last_absent, last_arm, last_end};
 use crate::fault::Fault;
-use crate::fronts::{finish, is_constructed, omit_default};
+use crate::fronts::{finish, in_front, is_constructed, omit_default};
 use crate::put_any::put_any;
 use crate::put_bits::put_bits;
 use crate::put_leaves::{put_boolean, put_enumerated, put_identifier, put_integer, put_null};
@@ -20,6 +20,7 @@ use crate::put_rows::{
 };
 use crate::put_strings::{put_octets, put_text, put_time};
 use crate::schema::{Field, Kind, Node, Presence};
+use crate::settling::{are_ascending, settle};
 use crate::tagged::node_at;
 use crate::tape::Item;
 use asn1_headers::buffer::DerBuffer;
@@ -165,6 +166,7 @@ fn put_content(
         Kind::Sequence(fields, unknown) => {
             put_row(nodes, depth, fields, *unknown, tape, at, buf)
         }
+        Kind::Set(fields, unknown) => put_set(nodes, depth, fields, *unknown, tape, at, buf),
         Kind::SequenceOf(inner) => put_list(nodes, depth, *inner, false, tape, at, buf),
         Kind::SetOf(inner) => put_list(nodes, depth, *inner, true, tape, at, buf),
         Kind::Explicit(inner) => put_value(nodes, depth, *inner, tape, at, buf),
@@ -226,6 +228,72 @@ fn put_fields(
         match put_field(nodes, depth, field, tape, rest, buf) {
             Ok(place) => rest = place,
             Err(e) => return Err(e),
+        }
+        left = others;
+    }
+    Ok(rest)
+}
+
+/// Writes the values of a set of fields and unknown elements, which ends before a place.
+#[cycle(writing)]
+fn put_set(
+    nodes: &[Node],
+    depth: usize,
+    fields: &[Field],
+    unknown: Option<usize>,
+    tape: &[Item<'_>],
+    at: usize,
+    buf: &mut DerBuffer,
+) -> Result<usize, Fault>
+    requires place { at ≤ length tape.now }
+    requires sound { is_sound nodes.now ≡ true }
+    ensures { Writes (IsFieldSet nodes.now depth unknown fields.now) tape.now at buf.old buf.new
+        result }
+{
+    let Some(items) = last_end(tape, at) else {
+        return Err(Fault::Refused);
+    };
+    let count = count_unknown(unknown, fields.len(), tape, items, at - 1);
+    match put_members(nodes, depth, fields, unknown, count, tape, at - 1, buf) {
+        Ok(rest) => begin_row(tape, at - 1, rest, items),
+        Err(e) => Err(e),
+    }
+}
+
+/// Writes the values of the fields of a set, and so many unknown elements, each in its place by its tag (X.690 10.3).
+#[cycle(writing)]
+fn put_members(
+    nodes: &[Node],
+    depth: usize,
+    fields: &[Field],
+    unknown: Option<usize>,
+    count: usize,
+    tape: &[Item<'_>],
+    at: usize,
+    buf: &mut DerBuffer,
+) -> Result<usize, Fault>
+    requires place { at ≤ length tape.now }
+    requires sound { is_sound nodes.now ≡ true }
+    ensures { WritesRow (AreCountedSet nodes.now depth unknown count fields.now) tape.now at buf.old
+        buf.new result }
+{
+    let held = buf.len();
+    let mut rest = match put_unknown(nodes, depth, unknown, count, tape, at, buf) {
+        Ok(place) => place,
+        Err(e) => return Err(e),
+    };
+    if !are_ascending(in_front(buf, held)) {
+        return Err(Fault::Refused);
+    }
+    let mut left = fields;
+    while let Some((field, others)) = left.split_last() {
+        let behind = buf.len();
+        match put_field(nodes, depth, field, tape, rest, buf) {
+            Ok(place) => rest = place,
+            Err(e) => return Err(e),
+        }
+        if !settle(held, behind, buf) {
+            return Err(Fault::Refused);
         }
         left = others;
     }

@@ -151,7 +151,8 @@ impl<'s, 't> Reader<'s, 't> {
         }
         if self.takes("SET") {
             if self.is("{") {
-                return Err(place.error(Wrong::NoKind("SET")));
+                let (span, is_open) = self.read_components(depth)?;
+                return self.put_type("", place, TypeSyntax::Set(span, is_open));
             }
             return self.read_list(depth, place, true);
         }

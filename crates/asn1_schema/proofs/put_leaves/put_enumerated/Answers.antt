@@ -1,5 +1,5 @@
-use Rattle.std.proofs.Common.{refl, ◌≡◌, ◌∙◌, ap, subst, sym, ℕ, ℤ, true, List}
-use Rattle.std.specs.Prelude.{Result, Err, ◌⊎◌, Contains}
+use Rattle.std.proofs.Common.{refl, ◌≡◌, subst, sym, ℕ, ℤ, true, List}
+use Rattle.std.specs.Prelude.{Result, ◌⊎◌, Contains}
 use Rattle.x690.specs.Laws.Integers.{integer_content_one_value}
 use Rattle.asn1_schema.specs.declared.fault.Fault.{Fault}
 use Rattle.asn1_schema.specs.declared.tape.Item.{Item}

@@ -1,5 +1,5 @@
-use Rattle.std.proofs.Common.{rules, ◌≡◌, sym, subst, refl, ℕ, ◌-◌, ◌<◌, inr, List, ◌++◌, true, arith, length}
-use Rattle.std.specs.Prelude.{ℤ, Option, Err, ◌||◌, not}
+use Rattle.std.proofs.Common.{rules, ◌≡◌, ◌∙◌, ap, sym, subst, refl, ℕ, ◌-◌, ◌<◌, inl, inr, List, [], ◌∷◌, ◌++◌, true, false, arith, append_assoc, length}
+use Rattle.std.specs.Prelude.{ℤ, Option, Ok, Err, ◌||◌, not}
 use Rattle.std.proofs.lemmas.Bool.{not-true, not-false}
 use Rattle.std.proofs.lemmas.List.{nil_from_length, length-map}
 use Rattle.std.proofs.lemmas.Option.{slice_get_within}
@@ -11,7 +11,9 @@ use Rattle.asn1_schema.specs.declared.tape.Item.{Item}
 use Rattle.asn1_schema.specs.Tape.{mark, marks, tape_of}
 use Rattle.asn1_schema.specs.Grammar.{AreUnknown, Says}
 use Rattle.asn1_schema.specs.Sound.{is_single, kind_told, fields_told, arms_told, arms_held, all_before, field_told, may_be_left_out, node_at}
-use Rattle.asn1_schema.specs.Reading.{rules_of, parts_of, IsBody, IsOfKind, IsArmOf, AreFieldsOf, AreItemsOf, IsRowOf, IsListed, Judges, ReadsValue, ReadsRow, MayNot, Leaves, PutsValue}
+use Rattle.asn1_schema.specs.Reading.{rules_of, parts_of, IsBody, IsOfKind, IsArmOf, AreFieldsOf, AreItemsOf, IsRowOf, IsListed, Judges, ReadsValue, ReadsRow, MayNot, Leaves, PutsValue, UnlessMemory}
+use Rattle.asn1_schema.specs.Values.{Value}
+use Rattle.asn1_schema.specs.Members.{AreMembersOf, AreOthersOf, AreSetOf, IsSetOf, IsOther, others_than}
 use Rattle.asn1_schema.specs.declared.pieces.Sort.TheVariants as sorts
 use Rattle.asn1_schema.specs.Pieces.{IsStringOf}
 use Rattle.asn1_schema.proofs.Depths.{least, fault_least, within, fault_within}
@@ -19,7 +21,8 @@ use Rattle.asn1_schema.proofs.Tags.{arm_before, first_holds, second_holds, node_
 use Rattle.asn1_schema.proofs.OneValue.{tag_of_body}
 use Rattle.asn1_schema.proofs.Taken.{lawful_of, written_of, no_leaf, body_some, reads_map, reads_up, kind_refused, order_of, no_type, other_tag, set_read, no_element, front_shorter, front_read, front_refused, whole_read, not_whole, whole_refused, explicit_read, no_arm, arm_read, arm_refused, choice_read, within_read, within_judged, bounds_order, leaf_read, leaf_up}
 use Rattle.asn1_schema.proofs.Bounded.{bounds_refused}
-use Rattle.asn1_schema.proofs.TakenRows.{nothing_yet, row_read, row_refused, item_more, items_refused, items_done, fields_further, fields_refused, fields_ended, fields_done, fields_over, field_there, field_refused, field_default, no_tag}
+use Rattle.asn1_schema.proofs.TakenRows.{nothing_yet, place_within, row_read, row_refused, item_more, items_refused, items_done, fields_further, fields_refused, fields_ended, fields_done, fields_over, SoFar, field_there, field_refused, field_away, left_absent, default_away, no_tag}
+use Rattle.asn1_schema.proofs.TakenSets.{members_begun, members_refused, member_further, members_ended, member_read, member_away, other_read, other_refused, other_further, others_done, set_read_so, set_unordered}
 use Rattle.asn1_schema.proofs.reading.+reading.Goals as goal
 
 pub read_body-returns-then-depth-eq0 : goal.read_body-returns-then-depth-eq0
@@ -33,11 +36,11 @@ read_body-returns-then-not-has_a_tag t c = λ d h. other_tag (rules_of c.args.co
 
 pub read_body-read_row-requires : goal.read_body-read_row-requires
 read_body-read_row-requires t c =
-    let told : fields_told c.args.nodes.now c.in-Sequence.unknown c.in-Sequence.fields.items ≡ true =
-    second_holds (is_single c.in-Some.node.now.tags) (fields_told c.args.nodes.now c.in-Sequence.unknown c.in-Sequence.fields.items)
+    let told : fields_told false c.args.nodes.now c.in-Sequence.unknown c.in-Sequence.fields.items ≡ true =
+    second_holds (is_single c.in-Some.node.now.tags) (fields_told false c.args.nodes.now c.in-Sequence.unknown c.in-Sequence.fields.items)
     (subst (λ (k : Kind). kind_told c.args.nodes.now c.in-Some.node.now.tags k ≡ true) c.in-Sequence.is (node_told c.args.nodes.now c.args.of c.in-Some.node.now c.requires c.in-Some.ensures.some)) in
-    let here : fields_told c.args.nodes.now c.in-Sequence.unknown c.deref.result.now ≡ true =
-    subst (λ (z : List Field). fields_told c.args.nodes.now c.in-Sequence.unknown z ≡ true) (sym c.deref.ensures.value) told in
+    let here : fields_told false c.args.nodes.now c.in-Sequence.unknown c.deref.result.now ≡ true =
+    subst (λ (z : List Field). fields_told false c.args.nodes.now c.in-Sequence.unknown z ≡ true) (sym c.deref.ensures.value) told in
     search rules
 
 pub read_body-read_choice-requires : goal.read_body-read_choice-requires
@@ -238,9 +241,9 @@ read_fields-returns-in-Err t c = λ d h. fields_refused (rules_of c.args.coding)
 
 pub read_fields-loop-field-preserved : goal.read_fields-loop-field-preserved
 read_fields-loop-field-preserved t c = record {
-  told = second_holds (not (may_be_left_out c.in-Some.field.now.presence) || field_told c.args.nodes.now c.args.unknown (node_at c.args.nodes.now c.in-Some.field.now.of) c.in-Some.others.now)
-      (fields_told c.args.nodes.now c.args.unknown c.in-Some.others.now)
-      (subst (λ (z : List Field). fields_told c.args.nodes.now c.args.unknown z ≡ true) c.in-Some.ensures.cases.0 c.loop-field.invariant.told);
+  told = second_holds (not (may_be_left_out c.in-Some.field.now.presence) || field_told false c.args.nodes.now c.args.unknown (node_at c.args.nodes.now c.in-Some.field.now.of) c.in-Some.others.now)
+      (fields_told false c.args.nodes.now c.args.unknown c.in-Some.others.now)
+      (subst (λ (z : List Field). fields_told false c.args.nodes.now c.args.unknown z ≡ true) c.in-Some.ensures.cases.0 c.loop-field.invariant.told);
   so_far = λ d l. fields_further (rules_of c.args.coding) (lawful_of c.args.coding) c.args.nodes.now (IsBody c.args.coding c.args.nodes.now d) (tag_of_body (rules_of c.args.coding) (lawful_of c.args.coding) c.args.nodes.now d) (written_of c.args.coding) c.args.unknown (AreFieldsOf c.args.coding c.args.nodes.now d c.args.unknown c.args.fields.now c.args.octets.now) c.loop-field.left.now c.in-Some.field.now c.in-Some.others.now
       c.loop-field.rest.now c.in-Ok.tail.now c.args.tape.now.items c.loop-field.tape.items c.read_field.new.tape.items c.in-Some.ensures.cases.0 c.loop-field.invariant.told
       (c.loop-field.invariant.so_far d l) (c.in-Ok.ensures d l);
@@ -264,21 +267,159 @@ read_field-returns-in-Err t c = λ d h. field_refused (rules_of c.args.coding) (
 pub read_field-returns-in-Ok : goal.read_field-returns-in-Ok
 read_field-returns-in-Ok t c = λ d h. field_there (rules_of c.args.coding) (lawful_of c.args.coding) c.args.nodes.now (IsBody c.args.coding c.args.nodes.now d) (tag_of_body (rules_of c.args.coding) (lawful_of c.args.coding) c.args.nodes.now d) c.args.field.now.presence c.args.field.now.of c.args.octets.now c.in-Some.rest.now (parts_of c.in-Some.head c.in-Some.content.now) c.args.tape.now.items c.read_body.new.tape.items c.in-Some.ensures.some (c.in-Ok.ensures d h)
 
-pub read_field-returns-in-Required : goal.read_field-returns-in-Required
-read_field-returns-in-Required t c = λ d h. record { none = (no_tag (rules_of c.args.coding) (lawful_of c.args.coding) c.args.nodes.now (IsBody c.args.coding c.args.nodes.now d) (tag_of_body (rules_of c.args.coding) (lawful_of c.args.coding) c.args.nodes.now d) c.args.field.now.of c.args.octets.now c.in_default.ensures.none); why = inr (subst (MayNot (rules_of c.args.coding) ((IsBody c.args.coding c.args.nodes.now d) c.args.field.now.of)) (sym c.in-Required.is) tt) }
-
-pub read_field-returns-in-Ok-put_item : goal.read_field-returns-in-Ok-put_item
-read_field-returns-in-Ok-put_item t c = λ d h. inr (record { stays = refl; left = subst (λ (z : Presence). Leaves (rules_of c.args.coding) ((IsBody c.args.coding c.args.nodes.now d) c.args.field.now.of) z c.args.tape.now.items c.put_item.new.tape.items) (sym c.in-Optional.is) c.in-Ok-put_item.ensures.ok; none = (no_tag (rules_of c.args.coding) (lawful_of c.args.coding) c.args.nodes.now (IsBody c.args.coding c.args.nodes.now d) (tag_of_body (rules_of c.args.coding) (lawful_of c.args.coding) c.args.nodes.now d) c.args.field.now.of c.args.octets.now c.in_default.ensures.none) })
-
-pub read_field-returns-in-Ok-read_whole : goal.read_field-returns-in-Ok-read_whole
-read_field-returns-in-Ok-read_whole t c = λ d h. inr (record {
+pub read_field-returns-in-Ok-read_left_out : goal.read_field-returns-in-Ok-read_left_out
+read_field-returns-in-Ok-read_left_out t c = λ d h. inr (record {
   stays = refl;
-  left = subst (λ (z : Presence). Leaves (rules_of c.args.coding) ((IsBody c.args.coding c.args.nodes.now d) c.args.field.now.of) z c.args.tape.now.items c.read_whole.new.tape.items) (sym c.in-Default.is)
-      (subst (λ (z : List ℕ). PutsValue (Says (rules_of c.args.coding) ((IsBody c.args.coding c.args.nodes.now d) c.args.field.now.of) z) c.args.tape.now.items c.read_whole.new.tape.items) c.deref.ensures.value (c.in-Ok-read_whole.ensures d h));
-  none = (no_tag (rules_of c.args.coding) (lawful_of c.args.coding) c.args.nodes.now (IsBody c.args.coding c.args.nodes.now d) (tag_of_body (rules_of c.args.coding) (lawful_of c.args.coding) c.args.nodes.now d) c.args.field.now.of c.args.octets.now c.in_default.ensures.none);
+  left = c.in-Ok-read_left_out.ensures d h;
+  none = no_tag (rules_of c.args.coding) (lawful_of c.args.coding) c.args.nodes.now (IsBody c.args.coding c.args.nodes.now d) (tag_of_body (rules_of c.args.coding) (lawful_of c.args.coding) c.args.nodes.now d) c.args.field.now.of c.args.octets.now c.in_default.ensures.none;
 })
 
-pub read_field-returns-in-Err-read_whole : goal.read_field-returns-in-Err-read_whole
-read_field-returns-in-Err-read_whole t c = λ d h. field_default (rules_of c.args.coding) (lawful_of c.args.coding) c.args.nodes.now (IsBody c.args.coding c.args.nodes.now d) (tag_of_body (rules_of c.args.coding) (lawful_of c.args.coding) c.args.nodes.now d) (Unit {0}) c.args.field.now.presence c.in-Default.default c.args.field.now.of c.args.octets.now c.args.tape.now.items c.read_whole.new.tape.items c.read_whole.new.tape.items c.in-Err-read_whole.e
-    c.in-Default.is c.in_default.ensures.none
-    (subst (λ (z : List ℕ). ReadsValue {T = Unit {0}} (Says (rules_of c.args.coding) ((IsBody c.args.coding c.args.nodes.now d) c.args.field.now.of) z) c.args.tape.now.items c.read_whole.new.tape.items (Err c.in-Err-read_whole.e)) c.deref.ensures.value (c.in-Err-read_whole.ensures d h))
+pub read_field-returns-in-Err-read_left_out : goal.read_field-returns-in-Err-read_left_out
+read_field-returns-in-Err-read_left_out t c = λ d h.
+    field_away (rules_of c.args.coding) (lawful_of c.args.coding) c.args.nodes.now (IsBody c.args.coding c.args.nodes.now d) (tag_of_body (rules_of c.args.coding) (lawful_of c.args.coding) c.args.nodes.now d)
+    c.args.field.now.presence c.args.field.now.of c.args.octets.now c.in-Err-read_left_out.e c.in_default.ensures.none
+    (c.in-Err-read_left_out.ensures d h)
+
+pub read_left_out-returns-in-Required : goal.read_left_out-returns-in-Required
+read_left_out-returns-in-Required t c = λ d h. subst (MayNot (rules_of c.args.coding) ((IsBody c.args.coding c.args.nodes.now d) c.args.field.now.of)) (sym c.in-Required.is) tt
+
+pub read_left_out-returns-in-Optional : goal.read_left_out-returns-in-Optional
+read_left_out-returns-in-Optional t c = λ d h. left_absent (rules_of c.args.coding) ((IsBody c.args.coding c.args.nodes.now d) c.args.field.now.of) c.args.field.now.presence c.args.tape.now.items c.put_item.new.tape.items c.put_item.result c.in-Optional.is c.put_item.ensures.ok c.put_item.ensures.err
+
+pub read_left_out-returns-in-Ok : goal.read_left_out-returns-in-Ok
+read_left_out-returns-in-Ok t c = λ d h.
+    subst (λ (z : Presence). Leaves (rules_of c.args.coding) ((IsBody c.args.coding c.args.nodes.now d) c.args.field.now.of) z c.args.tape.now.items c.read_whole.new.tape.items) (sym c.in-Default.is)
+    (subst (λ (z : List ℕ). PutsValue (Says (rules_of c.args.coding) ((IsBody c.args.coding c.args.nodes.now d) c.args.field.now.of) z) c.args.tape.now.items c.read_whole.new.tape.items) c.deref.ensures.value (c.in-Ok.ensures d h))
+
+pub read_left_out-returns-in-Err : goal.read_left_out-returns-in-Err
+read_left_out-returns-in-Err t c = λ d h.
+    default_away (rules_of c.args.coding) ((IsBody c.args.coding c.args.nodes.now d) c.args.field.now.of) c.args.field.now.presence c.in-Default.default c.in-Err.e c.in-Default.is
+    (subst (λ (z : List ℕ). UnlessMemory c.in-Err.e ((v : Value) → Says (rules_of c.args.coding) ((IsBody c.args.coding c.args.nodes.now d) c.args.field.now.of) z v → ⊥)) c.deref.ensures.value (c.in-Err.ensures d h))
+
+pub read_body-read_set-requires : goal.read_body-read_set-requires
+read_body-read_set-requires t c =
+    let told : fields_told true c.args.nodes.now c.in-Set.unknown c.in-Set.fields.items ≡ true =
+    second_holds (is_single c.in-Some.node.now.tags) (fields_told true c.args.nodes.now c.in-Set.unknown c.in-Set.fields.items)
+    (subst (λ (k : Kind). kind_told c.args.nodes.now c.in-Some.node.now.tags k ≡ true) c.in-Set.is (node_told c.args.nodes.now c.args.of c.in-Some.node.now c.requires c.in-Some.ensures.some)) in
+    let here : fields_told true c.args.nodes.now c.in-Set.unknown c.deref-in-Set.result.now ≡ true =
+    subst (λ (z : List Field). fields_told true c.args.nodes.now c.in-Set.unknown z ≡ true) (sym c.deref-in-Set.ensures.value) told in
+    search rules
+
+pub read_body-returns-in-Set : goal.read_body-returns-in-Set
+read_body-returns-in-Set t c = λ d h. let l = least c.args.depth c.read_set.result d h in reads_up (rules_of c.args.coding) c.args.nodes.now d c.args.of (parts_of c.args.head c.args.content.now) c.in-Some.node.now (kinds.Set c.in-Set.fields c.in-Set.unknown) c.args.tape.now.items c.read_set.new.tape.items c.read_set.result (grind (arith, c.if-depth-eq0.false, l)) c.in-Some.ensures.some (sym c.if-not-has_a_tag.ensures) c.in-Set.is
+    (subst (λ (z : List Field). ReadsValue (IsSetOf c.args.coding c.args.nodes.now (d - 1) c.in-Set.unknown z c.args.head.constructed c.args.content.now)
+    c.args.tape.now.items c.read_set.new.tape.items c.read_set.result) c.deref-in-Set.ensures.value (c.read_set.ensures (d - 1) (within c.args.depth c.read_set.result d (grind (arith, c.if-depth-eq0.false)) h)))
+
+pub read_set-returns-then-not-judge_order : goal.read_set-returns-then-not-judge_order
+read_set-returns-then-not-judge_order t c = λ d h v b. set_unordered c.args.coding (IsBody c.args.coding c.args.nodes.now d) c.args.unknown c.args.fields.now c.args.octets.now b.0
+    (λ a. let y = c.if-not-judge_order.ensures.no a in absurd (cc)) b.3
+
+pub read_set-returns-in-Ok-read_members : goal.read_set-returns-in-Ok-read_members
+read_set-returns-in-Ok-read_members t c = λ d h.
+    let a = c.if-not-judge_order.ensures.yes refl in
+    row_read c.args.constructed (AreSetOf c.args.coding c.args.nodes.now d c.args.unknown c.args.fields.now c.args.octets.now) c.args.tape.now.items c.open_row.new.tape.items c.read_members.new.tape.items c.close_row.new.tape.items c.in-Ok.place c.close_row.result
+    c.if-not-constructed.false c.in-Ok.ensures.place c.in-Ok.ensures.pushed
+    (set_read_so {T = Unit {0}} c.args.coding (IsBody c.args.coding c.args.nodes.now d) c.args.unknown c.args.fields.now c.args.octets.now a c.open_row.new.tape.items c.read_members.new.tape.items (Ok tt)
+    (c.in-Ok-read_members.ensures a.elements a.joins d (least c.args.depth c.close_row.result d h))) c.close_row.ensures.closed c.close_row.ensures.err
+
+pub read_set-returns-in-Err-read_members : goal.read_set-returns-in-Err-read_members
+read_set-returns-in-Err-read_members t c = λ d h.
+    let a = c.if-not-judge_order.ensures.yes refl in
+    row_refused (Unit {0}) (Unit {0}) c.args.constructed (AreSetOf c.args.coding c.args.nodes.now d c.args.unknown c.args.fields.now c.args.octets.now) c.args.tape.now.items c.open_row.new.tape.items c.read_members.new.tape.items c.read_members.new.tape.items c.in-Err-read_members.e
+    (set_read_so {T = Unit {0}} c.args.coding (IsBody c.args.coding c.args.nodes.now d) c.args.unknown c.args.fields.now c.args.octets.now a c.open_row.new.tape.items c.read_members.new.tape.items (Err c.in-Err-read_members.e)
+    (c.in-Err-read_members.ensures a.elements a.joins d h))
+
+pub read_set-close_row-requires : goal.read_set-close_row-requires
+read_set-close_row-requires t c =
+    let a = c.if-not-judge_order.ensures.yes refl in
+    let within = place_within c.args.tape.now.items c.open_row.new.tape.items c.read_members.new.tape.items (AreMembersOf c.args.coding c.args.nodes.now c.args.depth c.args.unknown c.args.fields.now a.elements) c.in-Ok.place
+    c.in-Ok.ensures.place c.in-Ok.ensures.pushed (c.in-Ok-read_members.ensures a.elements a.joins c.args.depth (omega arith)) in
+    let count = length-map c.read_members.new.tape.items mark in
+    omega (arith, within, count)
+
+pub read_members-loop-field-init : goal.read_members-loop-field-init
+read_members-loop-field-init t c = record {
+  done = [];
+  parts = refl;
+  so_far = λ es j d l. members_begun (rules_of c.args.coding) c.args.nodes.now (IsBody c.args.coding c.args.nodes.now d) c.args.unknown c.args.fields.now es c.args.tape.now.items;
+}
+
+pub read_members-returns-in-Err : goal.read_members-returns-in-Err
+read_members-returns-in-Err t c = λ es j d h.
+    let i = c.loop-field.invariant in
+    members_refused (rules_of c.args.coding) (lawful_of c.args.coding) c.args.nodes.now (IsBody c.args.coding c.args.nodes.now d) (tag_of_body (rules_of c.args.coding) (lawful_of c.args.coding) c.args.nodes.now d) c.args.unknown i.done c.in-Some.field.now c.in-Some.others.now
+    (subst (λ (z : List Field). fields_told true c.args.nodes.now c.args.unknown z ≡ true) (i.parts ∙ ap (λ (z : List Field). i.done ++ z) c.in-Some.ensures.cases.0) c.requires.told) es (Unit {0})
+    (AreMembersOf c.args.coding c.args.nodes.now d c.args.unknown c.args.fields.now es) c.args.tape.now.items c.loop-field.tape.items c.read_member.new.tape.items c.in-Err.e
+    (subst (λ (z : List Field). SoFar (AreMembersOf c.args.coding c.args.nodes.now d c.args.unknown z (others_than c.args.nodes.now i.done es))
+    (AreMembersOf c.args.coding c.args.nodes.now d c.args.unknown c.args.fields.now es) c.args.tape.now.items c.loop-field.tape.items) c.in-Some.ensures.cases.0
+    (i.so_far es j d (fault_least c.args.depth c.in-Err.e d h))) (c.in-Err.ensures es j d h)
+
+pub read_members-loop-field-preserved : goal.read_members-loop-field-preserved
+read_members-loop-field-preserved t c =
+    let i = c.loop-field.invariant in
+    record {
+      done = i.done ++ c.in-Some.field.now ∷ [];
+      parts = (i.parts ∙ ap (λ (z : List Field). i.done ++ z) c.in-Some.ensures.cases.0) ∙ sym (append_assoc i.done (c.in-Some.field.now ∷ []) c.in-Some.others.now);
+      so_far = λ es j d l. member_further (rules_of c.args.coding) (lawful_of c.args.coding) c.args.nodes.now (IsBody c.args.coding c.args.nodes.now d) (tag_of_body (rules_of c.args.coding) (lawful_of c.args.coding) c.args.nodes.now d) c.args.unknown i.done c.in-Some.field.now c.in-Some.others.now
+          (subst (λ (z : List Field). fields_told true c.args.nodes.now c.args.unknown z ≡ true) (i.parts ∙ ap (λ (z : List Field). i.done ++ z) c.in-Some.ensures.cases.0) c.requires.told) es
+          (AreMembersOf c.args.coding c.args.nodes.now d c.args.unknown c.args.fields.now es) c.args.tape.now.items c.loop-field.tape.items c.read_member.new.tape.items
+          (subst (λ (z : List Field). SoFar (AreMembersOf c.args.coding c.args.nodes.now d c.args.unknown z (others_than c.args.nodes.now i.done es))
+          (AreMembersOf c.args.coding c.args.nodes.now d c.args.unknown c.args.fields.now es) c.args.tape.now.items c.loop-field.tape.items) c.in-Some.ensures.cases.0
+          (i.so_far es j d l)) (written_of c.args.coding) (c.in-Ok.ensures es j d l);
+    }
+
+pub read_members-returns : goal.read_members-returns
+read_members-returns t c = λ es j d h.
+    let i = c.loop-field.invariant in
+    members_ended (rules_of c.args.coding) c.args.nodes.now (IsBody c.args.coding c.args.nodes.now d) c.args.unknown
+    (AreMembersOf c.args.coding c.args.nodes.now d c.args.unknown c.args.fields.now es) c.args.fields.now i.done c.loop-field.left.now es c.args.tape.now.items c.loop-field.tape.items c.read_others.new.tape.items c.read_others.result
+    i.parts (nil_from_length c.loop-field.left.now c.in_default.ensures.cases) (i.so_far es j d (least c.args.depth c.read_others.result d h)) (c.read_others.ensures es j d h)
+
+pub read_member-returns-in-One : goal.read_member-returns-in-One
+read_member-returns-in-One t c = λ es j d h.
+    member_read (rules_of c.args.coding) c.args.nodes.now c.args.field.now.of ((IsBody c.args.coding c.args.nodes.now d) c.args.field.now.of) c.args.field.now.presence es (parts_of c.in-One.head c.in-One.content.now)
+    c.args.tape.now.items c.read_body.new.tape.items c.read_body.result (c.in-One.ensures es j) (c.read_body.ensures d h)
+
+pub read_member-returns-in-Nothing : goal.read_member-returns-in-Nothing
+read_member-returns-in-Nothing t c = λ es j d h.
+    member_away (rules_of c.args.coding) c.args.nodes.now c.args.field.now.of ((IsBody c.args.coding c.args.nodes.now d) c.args.field.now.of) c.args.field.now.presence es
+    c.args.tape.now.items c.read_left_out.new.tape.items c.read_left_out.result (c.in-Nothing.ensures es j) (c.read_left_out.ensures d h)
+
+pub read_member-returns-in-Several : goal.read_member-returns-in-Several
+read_member-returns-in-Several t c = λ es j d h. inl (c.in-Several.ensures es j)
+
+pub read_others-loop-tail-init : goal.read_others-loop-tail-init
+read_others-loop-tail-init t c = λ es j d l. record {
+  left = es;
+  joins = j;
+  so_far = nothing_yet (AreOthersOf c.args.coding c.args.nodes.now d c.args.unknown (others_than c.args.nodes.now c.args.fields.now es)) c.args.tape.now.items;
+}
+
+pub read_others-returns-in-Err : goal.read_others-returns-in-Err
+read_others-returns-in-Err t c = λ es j d h.
+    other_refused c.args.coding c.args.nodes.now d c.args.fields.now c.args.unknown c.loop-tail.rest.now c.in-Some.tail.now c.in-Some.content.now c.in-Some.head es
+    c.args.tape.now.items c.loop-tail.tape.items c.read_other.new.tape.items c.in-Err.e (c.loop-tail.invariant es j d (fault_least c.args.depth c.in-Err.e d h)) c.in-Some.ensures.some (c.in-Err.ensures d h)
+
+pub read_others-loop-tail-preserved : goal.read_others-loop-tail-preserved
+read_others-loop-tail-preserved t c = λ es j d l.
+    other_further c.args.coding c.args.nodes.now d c.args.fields.now c.args.unknown c.loop-tail.rest.now c.in-Some.tail.now c.in-Some.content.now c.in-Some.head es
+    c.args.tape.now.items c.loop-tail.tape.items c.read_other.new.tape.items (c.loop-tail.invariant es j d l) c.in-Some.ensures.some (c.in-Ok.ensures d l)
+
+pub read_others-loop-tail-smaller : goal.read_others-loop-tail-smaller
+read_others-loop-tail-smaller t c = front_shorter (rules_of c.args.coding) (lawful_of c.args.coding) (λ p v. ⊥) c.loop-tail.rest.now
+    c.in-Some.tail.now (parts_of c.in-Some.head c.in-Some.content.now) c.in-Some.ensures.some
+
+pub read_others-returns : goal.read_others-returns
+read_others-returns t c = λ es j d h.
+    others_done c.args.coding c.args.nodes.now d c.args.fields.now c.args.unknown c.loop-tail.rest.now es c.args.tape.now.items c.loop-tail.tape.items (c.loop-tail.invariant es j d h) c.in_default.ensures.none
+
+pub read_other-returns-in-Some : goal.read_other-returns-in-Some
+read_other-returns-in-Some t c = λ d h.
+    other_read c.args.coding c.args.nodes.now d c.args.unknown c.args.fields.now (parts_of c.args.head c.args.content.now) c.in-Some.inner c.args.tape.now.items c.read_body.new.tape.items c.read_body.result
+    (sym c.if-is_of_a_field.ensures) c.in-Some.is (c.read_body.ensures d h)
+
+pub read_other-returns-in-None : goal.read_other-returns-in-None
+read_other-returns-in-None t c = λ d h. (sym c.if-is_of_a_field.ensures, λ v b. subst (λ (z : Option ℕ). IsOther c.args.coding c.args.nodes.now d z (parts_of c.args.head c.args.content.now) v) c.in-None.is b)
+
+pub read_other-returns-then-is_of_a_field : goal.read_other-returns-then-is_of_a_field
+read_other-returns-then-is_of_a_field t c = λ d h. inl (sym c.if-is_of_a_field.ensures, refl)

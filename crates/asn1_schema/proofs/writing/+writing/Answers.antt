@@ -1,17 +1,18 @@
-use Rattle.std.proofs.Common.{rules, ◌≡◌, sym, subst, ℕ, ◌+◌, ◌-◌, ◌<◌, ◌≤◌, List, [], Some, true, arith, slice_get, length}
+use Rattle.std.proofs.Common.{rules, ◌≡◌, sym, subst, refl, ℕ, ◌+◌, ◌-◌, ◌<◌, ◌≤◌, List, [], Some, true, arith, slice_get, length}
 use Rattle.std.specs.Prelude.{Option, ℤ}
 use Rattle.asn1_schema.specs.declared.schema.Field.{Field}
 use Rattle.asn1_schema.specs.declared.schema.Kind.{Kind}
-use Rattle.asn1_schema.specs.Grammar.{Word, Body, AreFields, AreItems}
+use Rattle.asn1_schema.specs.Grammar.{Word, Body, AreFields, AreSet, AreItems}
 use Rattle.asn1_schema.specs.Rules.{strict}
 use Rattle.asn1_schema.specs.Reading.{IsListed}
 use Rattle.asn1_schema.specs.Sound.{all_before}
-use Rattle.asn1_schema.specs.Writing.{before, Writes, WritesRow, WritesDefault, IsContent, IsFieldRow, IsList, IsArm, AreCounted, order_of, primitive}
+use Rattle.asn1_schema.specs.Writing.{before, Writes, WritesRow, WritesDefault, IsContent, IsFieldRow, IsFieldSet, IsList, IsArm, AreCounted, order_of, primitive}
 use Rattle.asn1_schema.proofs.Tags.{arm_before}
 use Rattle.asn1_schema.proofs.Taken.{bounds_order}
 use Rattle.asn1_schema.proofs.WrittenLeaves.{refused}
-use Rattle.asn1_schema.proofs.WrittenElements.{single_of, classes_of, none_at_zero, none_of_none, found_within, content_refused, element_written, row_written, list_written, set_written, explicit_written}
+use Rattle.asn1_schema.proofs.WrittenElements.{single_of, classes_of, none_at_zero, none_of_none, found_within, content_refused, element_written, row_written, any_row_written, list_written, set_written, explicit_written}
 use Rattle.asn1_schema.proofs.WrittenRows.{required_written, optional_written, default_written, fields_begun, field_written, fields_written, fields_unbegun, fields_stopped, fields_counted, no_row_end, row_stopped, row_ended}
+use Rattle.asn1_schema.proofs.WrittenSets.{set_begun, set_unbegun, set_out_of_order, set_stopped, set_unsettled, set_counted, member_written, set_done}
 use Rattle.asn1_schema.proofs.WrittenItems.{items_begun, item_written, item_stopped, item_unordered, none_written}
 use Rattle.asn1_schema.proofs.WrittenChoices.{arms_before, choice_written, no_arm_end, no_arm, arm_stopped, arm_ended, bounds_written, within_stopped, within_judged}
 use Rattle.asn1_schema.proofs.WrittenAny.{any_type_written}
@@ -308,3 +309,81 @@ put_items-loop-left-preserved t c = item_written c.args.nodes.now c.requires.sou
     c.in-Ok.ensures
     (λ word behind words p l f o. (c.may_precede.ensures word behind words p l f o).0 (search rules))
     (c.len.result - c.len-held.result) (omega (arith, c.len.ensures))
+
+pub put_content-returns-in-Set : goal.put_content-returns-in-Set
+put_content-returns-in-Set t c = subst (λ (z : Kind). Writes (IsContent c.args.nodes.now c.args.depth z) c.args.tape.now c.args.at
+    c.args.buf.now c.put_set.new.buf c.put_set.result) (sym c.in-Set.is)
+    (any_row_written c.args.nodes.now c.args.depth c.in-Set.fields c.in-Set.unknown c.args.tape.now c.args.at c.args.buf.now
+    c.put_set.new.buf c.put_set.result
+    (subst (λ (fs : List Field). Writes (IsFieldSet c.args.nodes.now c.args.depth c.in-Set.unknown fs) c.args.tape.now c.args.at
+    c.args.buf.now c.put_set.new.buf c.put_set.result) c.deref-in-Set.ensures.value c.put_set.ensures))
+
+pub put_set-returns-in_default : goal.put_set-returns-in_default
+put_set-returns-in_default t c = refused (IsFieldSet c.args.nodes.now c.args.depth c.args.unknown c.args.fields.now) c.args.tape.now
+    c.args.at c.args.buf.now (no_row_end (AreSet strict (Body strict c.args.nodes.now c.args.depth) c.args.unknown
+    c.args.fields.now) 0 (before c.args.tape.now c.args.at) c.in_default.ensures)
+
+pub put_set-returns-in-Err : goal.put_set-returns-in-Err
+put_set-returns-in-Err t c = row_stopped (AreSet strict (Body strict c.args.nodes.now c.args.depth) c.args.unknown
+    c.args.fields.now) (length c.args.fields.now + c.count_unknown-count.result) c.args.tape.now c.args.at c.in-Some.items
+    c.args.buf.now c.put_members.new.buf c.in-Err.e c.in-Some.ensures.1
+    (λ octets front ks h e l. set_counted c.args.nodes.now c.args.depth c.args.unknown c.count_unknown-count.result
+    c.args.fields.now octets ks (c.count_unknown-count.ensures.some front ks e l)
+    c.count_unknown-count.ensures.none h) c.in-Err.ensures
+
+pub put_set-returns-in-Ok : goal.put_set-returns-in-Ok
+put_set-returns-in-Ok t c = row_ended (AreSet strict (Body strict c.args.nodes.now c.args.depth) c.args.unknown
+    c.args.fields.now) (length c.args.fields.now + c.count_unknown-count.result) c.args.tape.now c.args.at c.in-Ok.rest
+    c.in-Some.items c.args.buf.now c.put_members.new.buf c.begin_row.result c.requires.place c.in-Some.ensures.0
+    c.in-Some.ensures.1
+    (λ octets front ks h e l. set_counted c.args.nodes.now c.args.depth c.args.unknown c.count_unknown-count.result
+    c.args.fields.now octets ks (c.count_unknown-count.ensures.some front ks e l)
+    c.count_unknown-count.ensures.none h) c.in-Ok.ensures c.begin_row.ensures
+
+pub put_members-returns-in-Err : goal.put_members-returns-in-Err
+put_members-returns-in-Err t c = set_unbegun c.args.nodes.now c.args.depth c.args.unknown c.args.count c.args.fields.now
+    c.args.tape.now c.args.at c.args.buf.now c.put_unknown.new.buf c.in-Err.e c.in-Err.ensures
+
+pub put_members-returns-then-not-are_ascending : goal.put_members-returns-then-not-are_ascending
+put_members-returns-then-not-are_ascending t c = set_out_of_order c.args.nodes.now c.args.depth c.args.unknown c.requires.sound
+    c.args.count c.args.fields.now c.args.tape.now c.args.at c.in-Ok.place c.args.buf.now c.put_unknown.new.buf
+    c.in_front.result.now c.len-held.result c.len-held.ensures c.in-Ok.ensures c.in_front.ensures
+    (λ a. let f = c.if-not-are_ascending.ensures.no a in absurd (cc))
+
+pub put_members-loop-field-init : goal.put_members-loop-field-init
+put_members-loop-field-init t c = set_begun c.args.nodes.now c.args.depth c.args.unknown c.args.count c.args.fields.now
+    c.args.tape.now c.args.at c.in-Ok.place c.args.buf.now c.put_unknown.new.buf c.in_front.result.now c.len-held.result
+    c.len-held.ensures c.in-Ok.ensures c.in_front.ensures (c.if-not-are_ascending.ensures.yes refl)
+
+pub put_members-put_field-requires : goal.put_members-put_field-requires
+put_members-put_field-requires t c =
+    let w = c.loop-field.invariant.within in
+    let place : c.loop-field.rest ≤ length c.args.tape.now = omega (arith, w, c.requires.place) in
+    search rules
+
+pub put_members-returns-in-Err-put_field : goal.put_members-returns-in-Err-put_field
+put_members-returns-in-Err-put_field t c = set_stopped c.args.nodes.now c.args.depth c.args.unknown c.args.count
+    c.args.fields.now c.loop-field.left.now c.in-Some.others.now c.in-Some.field.now c.args.tape.now c.args.at
+    c.loop-field.rest c.args.buf.now c.loop-field.buf c.put_field.new.buf c.in-Err-put_field.e c.loop-field.invariant
+    c.in-Some.ensures.cases.0 c.in-Err-put_field.ensures
+
+pub put_members-returns-then-not-settle : goal.put_members-returns-then-not-settle
+put_members-returns-then-not-settle t c = set_unsettled c.args.nodes.now c.args.depth c.args.unknown c.requires.sound
+    c.args.count c.args.fields.now c.loop-field.left.now c.in-Some.others.now c.in-Some.field.now c.args.tape.now c.args.at
+    c.loop-field.rest c.in-Ok-put_field.place c.args.buf.now c.loop-field.buf c.put_field.new.buf c.settle.new.buf
+    c.len-held.result c.len-behind.result c.settle.result c.loop-field.invariant c.in-Some.ensures.cases.0
+    c.in-Ok-put_field.ensures c.len-held.ensures c.len-behind.ensures c.settle.ensures.nothing c.settle.ensures.settled
+    c.if-not-settle.true c.settle.ensures.stays
+
+pub put_members-loop-field-preserved : goal.put_members-loop-field-preserved
+put_members-loop-field-preserved t c = member_written c.args.nodes.now c.args.depth c.args.unknown c.requires.sound
+    c.args.count c.args.fields.now c.loop-field.left.now c.in-Some.others.now c.in-Some.field.now c.args.tape.now c.args.at
+    c.loop-field.rest c.in-Ok-put_field.place c.args.buf.now c.loop-field.buf c.put_field.new.buf c.settle.new.buf
+    c.len-held.result c.len-behind.result c.settle.result c.loop-field.invariant c.in-Some.ensures.cases.0
+    c.in-Ok-put_field.ensures c.len-held.ensures c.len-behind.ensures c.settle.ensures.nothing c.settle.ensures.settled
+    c.if-not-settle.false
+
+pub put_members-returns : goal.put_members-returns
+put_members-returns t c = set_done c.args.nodes.now c.args.depth c.args.unknown c.args.count c.args.fields.now
+    c.loop-field.left.now c.args.tape.now c.args.at c.loop-field.rest c.args.buf.now c.loop-field.buf c.loop-field.invariant
+    (c.in_default.ensures.cases)

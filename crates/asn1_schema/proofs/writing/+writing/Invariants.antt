@@ -1,5 +1,6 @@
 use Rattle.std.proofs.Common.{suc, ◌+◌, ◌*◌, length, min}
 use Rattle.asn1_schema.specs.Writing.{WrittenSoFar, ItemsSoFar}
+use Rattle.asn1_schema.proofs.WrittenSets.{SetSoFar}
 use Rattle.asn1_schema.proofs.writing.+writing.Given as goal
 
 abbrev pub decreases-put_value : goal.decreases-put_value
@@ -19,6 +20,12 @@ decreases-put_content l = 7 * (l.depth * suc (length l.nodes.now) + length l.nod
 
 abbrev pub decreases-put_row : goal.decreases-put_row
 decreases-put_row l = 7 * (l.depth * suc (length l.nodes.now) + length l.nodes.now) + 5
+
+abbrev pub decreases-put_set : goal.decreases-put_set
+decreases-put_set l = 7 * (l.depth * suc (length l.nodes.now) + length l.nodes.now) + 5
+
+abbrev pub decreases-put_members : goal.decreases-put_members
+decreases-put_members l = 7 * (l.depth * suc (length l.nodes.now) + length l.nodes.now) + 4
 
 abbrev pub decreases-put_list : goal.decreases-put_list
 decreases-put_list l = 7 * (l.depth * suc (length l.nodes.now) + length l.nodes.now) + 5
@@ -44,6 +51,13 @@ invariant-put_fields-loop-field l =
 
 abbrev pub decreases-put_fields-loop-field : goal.decreases-put_fields-loop-field
 decreases-put_fields-loop-field l = length l.left
+
+abbrev pub invariant-put_members-loop-field : goal.invariant-put_members-loop-field
+invariant-put_members-loop-field l =
+    SetSoFar l.nodes l.depth l.fn.unknown l.count l.fields l.left l.tape l.at l.rest l.fn.buf l.buf
+
+abbrev pub decreases-put_members-loop-field : goal.decreases-put_members-loop-field
+decreases-put_members-loop-field l = length l.left
 
 abbrev pub invariant-put_items-loop-left : goal.invariant-put_items-loop-left
 invariant-put_items-loop-left l =
