@@ -1,5 +1,5 @@
 -- What a step finds tells what is to come.
-use Rattle.std.proofs.Common.{◌≡◌, ℕ, suc, ◌+◌, List, [], ◌∷◌, ◌++◌, ◌≤◌, length, reverse, inl, inr, refl, sym, ap, arith}
+use Rattle.std.proofs.Common.{◌≡◌, ℕ, suc, ◌+◌, List, [], ◌≤◌, length, reverse, inl, inr, refl, sym, ap, arith}
 use Rattle.std.proofs.Common.{subst, length-append}
 use Rattle.asn1_walk.specs.declared.line.Line.{Line}
 use Rattle.asn1_walk.specs.declared.state.Frame.{Frame}
@@ -7,8 +7,8 @@ use Rattle.asn1_walk.specs.declared.state.Walk.{Walk}
 use Rattle.asn1_walk.specs.declared.walk.Step.{Step}
 use Rattle.asn1_walk.specs.declared.walk.Step.TheVariants.{Line as an_element, Closed, End, Refused}
 use Rattle.asn1_walk.specs.Rooms.{behind}
-use Rattle.asn1_walk.specs.Rows.{Outcome, ended, refused}
-use Rattle.asn1_walk.specs.Walks.{Finds, Moves, Goes, Left, steps_left}
+use Rattle.asn1_walk.specs.Rows.{Outcome, ended}
+use Rattle.asn1_walk.specs.Walks.{Finds, Moves, Goes, steps_left}
 use Rattle.asn1_walk.proofs.Coming.{all_end, fault_next, leaf_next}
 use Rattle.asn1_walk.proofs.Steps.{closed, closed_fewer, header_passed, opened, opened_fewer}
 
