@@ -244,6 +244,9 @@ def odd_files(program, room):
         ("no base64", "check", pem.replace(b"MII", b"M!I"), 1, 0), ("a long string", "dump", b"\4\x84\0\x98\x96\x80" +
          b"a" * 10000000, 0, 1),
         ("element before others", "dump --at 0", b"\x30\x80\0\0\x1f", 0, 1), ("none", "dump --at 2", b"\5\0\x1f", 1, 1),
+        ("element that breaks off", "dump --at 0", b"\x30\3\4\5\0\5\0", 1, 2), ("end", "dump --at 3", b"\5\0", 1, 1),
+        ("further ones", "check --all", b"\x30\x09\1\1\5\2\2\0\1\5\0", 1, 2),
+        ("a fault behind", "check --all", b"\x30\5\1\1\5\4\x80", 1, 2),
     ]
     for name, task, octets, status, lines in rows:
         path = room / "odd"

@@ -9,4 +9,4 @@ mod Told
 mod Gained
 mod Utf8Texts
 mod Utf8Values
-mod OneRow
+mod OneLine

@@ -1,6 +1,8 @@
 -- What the findings of the commands say of octets.
-use Rattle.std.specs.Prelude.{◌≡◌, ℕ, List, [], ◌++◌, ◌⊎◌, Bool, true, false, drop}
-use Rattle.x690.specs.Faults.{Fault}
+use Rattle.std.specs.Prelude.{◌≡◌, ℕ, ◌-◌, ◌^◌, List, [], ◌++◌, ◌⊎◌, Bool, true, false, drop}
+use Rattle.x690.specs.Elements.{Parts}
+use Rattle.x690.specs.Faults.{Fault, HasFault}
+use Rattle.x690.specs.Nested.{IsElement, ElementFault}
 use Rattle.asn1_walk.specs.declared.line.Line.{Line}
 use Rattle.asn1_walk.specs.declared.state.Walk.{Walk}
 use Rattle.asn1_walk.specs.Rows.{Row, Outcome, ended, refused}
@@ -32,10 +34,24 @@ abbrev pub FindsElements : List ℕ → Finding → Type 0
 FindsElements octets Holds = AreElements octets
 FindsElements octets Refused = BreaksOff octets × (AreElements octets → ⊥)
 
--- What a command found from an offset on: of octets at the front of those there; or that none are there.
+-- elements by BER are nested as deep as octets in memory can be
+abbrev pub deepest : ℕ
+deepest = 2 ^ 64 - 1
+
+-- the octets of the element that begins octets
+abbrev pub IsFirst : List ℕ → List ℕ → Type 0
+IsFirst octets word = (parts : Parts) × (rest : List ℕ) × IsElement deepest word parts × (octets ≡ word ++ rest)
+
+-- no element begins the octets
+abbrev pub HasNoFirst : List ℕ → Type 0
+HasNoFirst octets = HasFault (ElementFault deepest) octets
+
+-- What a command found of the element that begins at an offset: what it finds of its octets. It is a refusal where no
+-- element begins there.
 abbrev pub FindsAt : List ℕ → ℕ → Finding → Type 0
-FindsAt octets offset finding = ((drop offset octets ≡ []) × (finding ≡ Refused)) ⊎
-    ((part rest : List ℕ) × (drop offset octets ≡ part ++ rest) × FindsElements part finding)
+FindsAt octets offset finding =
+    ((word : List ℕ) × IsFirst (drop offset octets) word × FindsElements word finding) ⊎
+    (HasNoFirst (drop offset octets) × (finding ≡ Refused))
 
 -- whatever comes of the walk, comes of the octets
 abbrev pub GoesOver : List ℕ → Walk → Type 0

@@ -10,6 +10,7 @@ use Rattle.asn1_headers.specs.Header.Reading.{ber_refusal}
 use Rattle.asn1_walk.specs.declared.line.Line.{Line}
 use Rattle.asn1_walk.specs.Rows.{Row, Outcome, ended, refused}
 use Rattle.asn1_engine.specs.declared.trees.Options.{Options}
+use Rattle.asn1_engine.specs.Findings.{IsFirst, HasNoFirst}
 use Rattle.asn1_engine.specs.Words.{right, number_text}
 use Rattle.asn1_engine.specs.Lines.{IsLineText}
 use Rattle.asn1_engine.specs.Inner.{IsHeld, HoldsElements, IsNotEntered}
@@ -93,8 +94,10 @@ pub record IsTree (options : Options) (strings offset depth : ℕ) (octets text 
   pub ends : IsEnd options.json offset outcome end
   pub is : text ≡ shown ++ end
 
--- the same of the first element from an offset on, or a line that none is there
+-- What is written of the element that begins at an offset: what is written of its octets. Where no element begins there
+-- it is what is written of all octets behind, up to the fault, or a line that there are none.
 abbrev pub IsTreeAt : Options → ℕ → List ℕ → List ℕ → Type 0
 IsTreeAt options offset octets text =
     ((drop offset octets ≡ []) × IsRefusalLine options.json offset (codes "the octets end before") text) ⊎
-    ((part rest : List ℕ) × (drop offset octets ≡ part ++ rest) × IsTree options 16 offset 0 part text)
+    ((word : List ℕ) × IsFirst (drop offset octets) word × IsTree options 16 offset 0 word text) ⊎
+    (HasNoFirst (drop offset octets) × IsTree options 16 offset 0 (drop offset octets) text)

@@ -1,7 +1,8 @@
 //! The tree of the elements of octets, a line an element.
-ghost use Rattle.std.specs.Prelude.{◌≡◌, ◌≤◌, ◌++◌, ◌∷◌, [], ℕ, List, length, codes, true, IfOk, IfSome, IfNone, OnOk};
+ghost use Rattle.std.specs.Prelude.{◌≡◌, ◌≤◌, ◌++◌, ◌∷◌, [], ℕ, List, codes, true, IfOk, IfSome, IfNone, OnOk};
+ghost use Rattle.std.specs.Prelude.{MatchOption};
 ghost use Rattle.std.specs.Io.KnownBytes.{Appends};
-ghost use Rattle.asn1_engine.specs.Findings.{FindsElements, FindsAt};
+ghost use Rattle.asn1_engine.specs.Findings.{FindsElements, FindsAt, HasNoFirst, IsFirst};
 ghost use Rattle.asn1_engine.specs.Words.{right, number_text};
 ghost use Rattle.asn1_engine.specs.Lines.{IsLineText};
 ghost use Rattle.asn1_engine.specs.Trees.{IsRefusalLine, IsShown, IsTree, IsTreeAt, Writes, inner_depth};
@@ -17,6 +18,7 @@ use crate::objects::{push_object, push_refusal_object};
 use crate::standing::behind;
 use crate::values::push_value;
 use crate::words::{push_right, push_str};
+use asn1_headers::ber::{Steps, element_to_depth};
 use asn1_headers::error::{Err, Error};
 use asn1_walk::{Line, Step, Walk};
 use std::alloc::{AllocError, Global};
@@ -239,6 +241,40 @@ fn write_element<W: Write>(
     Ok(())
 }
 
+/// The octets of the element at the front; `None` where no element begins the octets.
+fn first(octets: &[u8]) -> Option<&[u8]>
+    ensures { MatchOption result (HasNoFirst octets.now) (λ word. IsFirst octets.now word.now) }
+{
+    match element_to_depth(octets, usize::MAX, &mut Steps::new()) {
+        Ok((rest, _element)) => {
+            let (word, _rest) = octets.split_at(octets.len() - rest.len());
+            Some(word)
+        }
+        Err(_) => None,
+    }
+}
+
+/// Writes the lines of octets that stand at an offset, as `dump` does.
+fn dump_from<W: Write>(
+    alloc: Global,
+    octets: &[u8],
+    offset: usize,
+    options: &Options,
+    out: &mut W,
+) -> Result<Finding, RunError>
+    ensures finds { IfOk result (FindsElements octets.now) }
+    ensures prints { OnOk result ((shown : List ℕ) × IsTree options.now 16 offset 0 octets.now shown ×
+        Appends (W.contents out.old) (W.contents out.new) shown) }
+{
+    let part = Part {
+        octets,
+        offset,
+        depth: 0,
+    };
+    let mut text = Vec::new(alloc);
+    dump_part(alloc, part, MOST_STRINGS, options, &mut text, out)
+}
+
 /// Writes a line for each element, by BER, and for the elements in strings. Where no element begins, the last line
 /// tells the offset and why.
 pub fn dump<W: Write>(
@@ -248,48 +284,14 @@ pub fn dump<W: Write>(
     out: &mut W,
 ) -> Result<Finding, RunError>
     ensures finds { IfOk result (FindsElements octets.now) }
-    ensures prints { OnOk result ((shown : List ℕ) ×
-        IsTree options.now 16 0 0 octets.now shown ×
+    ensures prints { OnOk result ((shown : List ℕ) × IsTree options.now 16 0 0 octets.now shown ×
         Appends (W.contents out.old) (W.contents out.new) shown) }
 {
-    let part = Part {
-        octets,
-        offset: 0,
-        depth: 0,
-    };
-    let mut text = Vec::new(alloc);
-    dump_part(alloc, part, MOST_STRINGS, options, &mut text, out)
+    dump_from(alloc, octets, 0, options, out)
 }
 
-/// How many octets the first element has, or all where none ends before.
-fn first_len(alloc: Global, octets: &[u8]) -> Result<usize, AllocError>
-    ensures { IfOk result (λ len. len ≤ length octets.now) }
-{
-    let mut walk = Walk::new(alloc, octets);
-    let mut open: usize = 0;
-    loop {
-        match walk.step()? {
-            Step::Line(line) if line.constructed => open = open.saturating_add(1),
-            Step::Line(_) => {}
-            Step::Closed => open = open.saturating_sub(1),
-            Step::End | Step::Refused(_) => return Ok(octets.len()),
-        }
-        if open == 0 {
-            return Ok(walk.offset().min(octets.len()));
-        }
-    }
-}
-
-/// The octets of the first element, or all where none ends before.
-fn first(alloc: Global, octets: &[u8]) -> Result<&[u8], AllocError>
-    ensures { IfOk result (λ part. (rest : List ℕ) × (octets.now ≡ part.now ++ rest)) }
-{
-    let len = first_len(alloc, octets)?;
-    let (part, _rest) = octets.split_at(len);
-    Ok(part)
-}
-
-/// Writes the lines of the element that begins at an offset, as `dump` does.
+/// Writes the lines of the one element that begins at an offset, as `dump` does. Where no element begins there, they
+/// go on up to the octet that says why.
 pub fn dump_at<W: Write>(
     alloc: Global,
     octets: &[u8],
@@ -302,15 +304,15 @@ pub fn dump_at<W: Write>(
         Appends (W.contents out.old) (W.contents out.new) shown) }
 {
     let rest = behind(octets, offset);
-    if rest.is_empty() {
-        write_refusal(alloc, offset, "the octets end before", options, out)?;
-        return Ok(Finding::Refused);
+    match first(rest) {
+        Some(word) => dump_from(alloc, word, offset, options, out),
+        None if rest.is_empty() => {
+            write_refusal(alloc, offset, "the octets end before", options, out)?;
+            Ok(Finding::Refused)
+        }
+        None => {
+            dump_from(alloc, rest, offset, options, out)?;
+            Ok(Finding::Refused)
+        }
     }
-    let part = Part {
-        octets: first(alloc, rest)?,
-        offset,
-        depth: 0,
-    };
-    let mut text = Vec::new(alloc);
-    dump_part(alloc, part, MOST_STRINGS, options, &mut text, out)
 }

@@ -1,9 +1,12 @@
 //! Whether octets are strict DER, in a line.
-ghost use Rattle.std.specs.Prelude.{◌≡◌, ◌++◌, ℕ, List, IfOk, IfSome, OnOk};
+ghost use Rattle.std.specs.Prelude.{◌≡◌, ◌++◌, ℕ, List, IfOk, OnOk, MatchOption};
 ghost use Rattle.std.specs.Io.KnownBytes.{Appends};
+ghost use Rattle.x690.specs.Rules.{der_rule};
+ghost use Rattle.x690.specs.Elements.{BeginsWithHeader};
 ghost use Rattle.asn1_engine.specs.Findings.{TellsStrict};
-ghost use Rattle.asn1_engine.specs.Verdicts.{AreFurther, AreVerdicts, IsDepartureLine, IsFurther, IsVerdict};
-ghost use Rattle.asn1_engine.specs.Verdicts.{departure_text, rule_text, strict_text};
+ghost use Rattle.asn1_engine.specs.Verdicts.{AreOthers, AreVerdicts, ElementHolds, ElementLacks, HeaderLacks};
+ghost use Rattle.asn1_engine.specs.Verdicts.{IsDepartureLine, IsElementVerdict, IsFurther, IsLineOf, IsVerdict};
+ghost use Rattle.asn1_engine.specs.Verdicts.{NothingHolds, departure_text, finding_of, rule_text, strict_text};
 
 use crate::error::{Finding, RunError};
 use crate::standing::{behind, push_standing, word_at};
@@ -49,16 +52,13 @@ fn push_departure(
     push_str(text, "\n")
 }
 
-/// Writes that octets are strict DER.
-fn write_strict<W: Write>(alloc: Global, name: &str, out: &mut W) -> Result<(), RunError>
-    ensures { OnOk result (Appends (W.contents out.old) (W.contents out.new) (strict_text name.now)) }
+/// Appends that octets are strict DER.
+fn push_strict(text: &mut Vec<u8>, name: &str) -> Result<(), AllocError>
+    ensures { OnOk result (text.new.items ≡ text.old.items ++ strict_text name.now) }
 {
-    let mut text = Vec::new(alloc);
-    push_str(&mut text, name)?;
-    push_str(&mut text, ": strict DER")?;
-    push_str(&mut text, "\n")?;
-    out.write_all(text.as_slice())?;
-    Ok(())
+    push_str(text, name)?;
+    push_str(text, ": strict DER")?;
+    push_str(text, "\n")
 }
 
 /// Writes the line of a departure of these octets.
@@ -79,6 +79,39 @@ fn write_departure<W: Write>(
     Ok(())
 }
 
+/// Writes that the octets are strict DER, or the line of the first departure, which is answered.
+fn write_first<W: Write>(
+    alloc: Global,
+    name: &str,
+    octets: &[u8],
+    out: &mut W,
+) -> Result<Option<Departure>, RunError>
+    ensures finds { IfOk result (λ found. TellsStrict octets.now (finding_of found)) }
+    ensures prints { IfOk result (λ found. (shown : List ℕ) × IsLineOf name.now octets.now found shown ×
+        Appends (W.contents out.old) (W.contents out.new) shown) }
+{
+    let found = departure_of_der(alloc, octets)?;
+    match found {
+        Some(departure) => write_departure(alloc, name, octets, departure, out)?,
+        None => {
+            let mut text = Vec::new(alloc);
+            push_strict(&mut text, name)?;
+            out.write_all(text.as_slice())?;
+        }
+    }
+    Ok(found)
+}
+
+/// Whether no departure was found.
+fn finding_of(found: Option<Departure>) -> Finding
+    ensures { result ≡ finding_of found }
+{
+    match found {
+        None => Finding::Holds,
+        Some(_) => Finding::Refused,
+    }
+}
+
 /// Writes that the octets of this name are strict DER, or the offset of the first element that is not, and why.
 pub fn check<W: Write>(
     alloc: Global,
@@ -90,64 +123,85 @@ pub fn check<W: Write>(
     ensures prints { OnOk result ((shown : List ℕ) × IsVerdict name.now octets.now shown ×
         Appends (W.contents out.old) (W.contents out.new) shown) }
 {
-    match departure_of_der(alloc, octets)? {
-        None => {
-            write_strict(alloc, name, out)?;
-            Ok(Finding::Holds)
-        }
-        Some(departure) => {
-            write_departure(alloc, name, octets, departure, out)?;
-            Ok(Finding::Refused)
-        }
-    }
+    let found = write_first(alloc, name, octets, out)?;
+    Ok(finding_of(found))
 }
 
 /// What DER asks of the header at the front of these octets and is not met.
-fn departure_of_header(octets: &[u8]) -> Option<Requirement> {
+fn departure_of_header(octets: &[u8]) -> Option<Requirement>
+    ensures { MatchOption result (BeginsWithHeader der_rule octets.now) (HeaderLacks octets.now) }
+{
     match header_by_der(octets) {
         Ok(_) => None,
         Err(refusal) => Some(requirement_of(&refusal)),
     }
 }
 
-/// What DER asks of an element and is not met: of its header, or else of its tag.
-fn departure_of_line(octets: &[u8], line: &Line<'_>) -> Option<Departure>
-    ensures { IfSome result (λ departure. departure.offset ≡ line.now.offset) }
+/// What DER asks of the element of a line at the front of these octets and is not met: of its header, or else of its
+/// tag.
+fn departure_of_element(octets: &[u8], line: &Line<'_>) -> Option<Requirement>
+    ensures { MatchOption result (ElementHolds octets.now line.now) (ElementLacks octets.now line.now) }
 {
-    let by_header = departure_of_header(behind(octets, line.offset));
-    let requirement = match by_header {
-        Some(requirement) => requirement,
-        None => departure_of(
-            line.class.number(),
-            line.number,
-            line.constructed,
-            line.content,
-        )?,
-    };
-    Some(Departure {
-        offset: line.offset,
-        requirement,
-    })
+    if let Some(requirement) = departure_of_header(octets) {
+        return Some(requirement);
+    }
+    departure_of(
+        line.class.number(),
+        line.number,
+        line.constructed,
+        line.content,
+    )
 }
 
-/// Writes the line of a departure, where there is one behind an offset.
+/// What is not met where no element begins the octets.
+fn departure_of_none(octets: &[u8]) -> Requirement
+    ensures { NothingHolds octets.now result }
+{
+    match departure_of_header(octets) {
+        Some(requirement) => requirement,
+        None => Requirement::Whole,
+    }
+}
+
+/// Writes the line of a departure, where it is behind an offset.
 fn write_further<W: Write>(
     alloc: Global,
     name: &str,
     octets: &[u8],
     first: usize,
-    departure: Option<Departure>,
+    departure: Departure,
     out: &mut W,
 ) -> Result<(), RunError>
-    ensures { OnOk result ((shown : List ℕ) × IsFurther name.now octets.now first shown ×
+    ensures { OnOk result ((shown : List ℕ) × IsFurther name.now octets.now first departure shown ×
         Appends (W.contents out.old) (W.contents out.new) shown) }
 {
-    match departure {
-        Some(departure) if departure.offset > first => {
-            write_departure(alloc, name, octets, departure, out)?;
-        }
-        _ => {}
+    if departure.offset <= first {
+        return Ok(());
     }
+    write_departure(alloc, name, octets, departure, out)
+}
+
+/// Writes the line of an element that has not what DER asks of it alone, where it is behind an offset.
+fn write_element<W: Write>(
+    alloc: Global,
+    name: &str,
+    octets: &[u8],
+    first: usize,
+    line: &Line<'_>,
+    out: &mut W,
+) -> Result<(), RunError>
+    ensures { OnOk result ((shown : List ℕ) × IsElementVerdict name.now octets.now first line.now shown ×
+        Appends (W.contents out.old) (W.contents out.new) shown) }
+{
+    let offset = line.offset;
+    let Some(requirement) = departure_of_element(behind(octets, offset), line) else {
+        return Ok(());
+    };
+    let departure = Departure {
+        offset,
+        requirement,
+    };
+    write_further(alloc, name, octets, first, departure, out)?;
     Ok(())
 }
 
@@ -160,33 +214,30 @@ fn write_others<W: Write>(
     first: usize,
     out: &mut W,
 ) -> Result<(), RunError>
-    ensures { OnOk result ((shown : List ℕ) × AreFurther name.now octets.now first shown ×
+    ensures { OnOk result ((shown : List ℕ) × AreOthers name.now octets.now first shown ×
         Appends (W.contents out.old) (W.contents out.new) shown) }
 {
     let mut walk = Walk::new(alloc, octets);
     loop {
         match walk.step()? {
-            Step::Line(line) => {
-                let found = departure_of_line(octets, &line);
-                write_further(alloc, name, octets, first, found, out)?;
-            }
+            Step::Line(line) => write_element(alloc, name, octets, first, &line, out)?,
             Step::Closed => {}
             Step::End => return Ok(()),
-            Step::Refused(refusal) => {
-                let found = Departure {
-                    offset: walk.offset(),
-                    requirement: requirement_of(&refusal),
+            Step::Refused(_) => {
+                let offset = walk.offset();
+                let departure = Departure {
+                    offset,
+                    requirement: departure_of_none(behind(octets, offset)),
                 };
-                write_further(alloc, name, octets, first, Some(found), out)?;
+                write_further(alloc, name, octets, first, departure, out)?;
                 return Ok(());
             }
         }
     }
 }
 
-/// Writes a line for each element, by BER, that has not what DER asks of it alone. The first octet that begins no
-/// element has a line too. Where there is none, the line says that the octets are strict DER. The first of these lines
-/// is exact as that of `check`, and the others are not.
+/// Writes the line of the first departure, as `check` does. Then each element, by BER, behind it has a line that has
+/// not what DER asks of it alone: of its header, or of its tag. The first octet that begins no element has one too.
 pub fn check_all<W: Write>(
     alloc: Global,
     name: &str,
@@ -197,13 +248,9 @@ pub fn check_all<W: Write>(
     ensures prints { OnOk result ((shown : List ℕ) × AreVerdicts name.now octets.now shown ×
         Appends (W.contents out.old) (W.contents out.new) shown) }
 {
-    match departure_of_der(alloc, octets)? {
-        None => {
-            write_strict(alloc, name, out)?;
-            Ok(Finding::Holds)
-        }
+    match write_first(alloc, name, octets, out)? {
+        None => Ok(Finding::Holds),
         Some(first) => {
-            write_departure(alloc, name, octets, first, out)?;
             write_others(alloc, name, octets, first.offset, out)?;
             Ok(Finding::Refused)
         }

@@ -126,54 +126,52 @@ opened_fewer frames more frame offset view line after e t opens =
       length-append frames (frame ∷ []),
     )
 
--- what is looked at when counted contents end, or marked ones
-abbrev pub next_view : Frame → List ℕ → List ℕ
-next_view (Counted tail) left = tail.now
-next_view Marked left = left
-
-closed_view : (frame : Frame) (view left : List ℕ) → AtEnd (is_marked frame) view left →
-    next_view frame left ≡ left ++ tail_of frame
-closed_view (Counted tail) view left e = ap (λ (l : List ℕ). l ++ tail.now) (sym e.1)
-closed_view Marked view left e = sym (append-nil left)
-
 closed_width : (frame : Frame) (view left : List ℕ) → AtEnd (is_marked frame) view left →
-    length view ≡ end_width (is_marked frame) + length left
-closed_width (Counted tail) view left e = omega (arith, ap length e.0, ap length e.1)
+    length left ≤ length view
+closed_width (Counted tail) view left e = omega (arith, ap length e.1)
 closed_width Marked view left e = omega (arith, ap length e)
-
-closed_length : (frame : Frame) (view left : List ℕ) → AtEnd (is_marked frame) view left →
-    length (next_view frame left) ≤ length view + length (tail_of frame)
-closed_length (Counted tail) view left e = omega arith
-closed_length Marked view left e = omega (arith, ap length e)
-
-at_end_of : (frames fewer : List Frame) (frame : Frame) (view left : List ℕ) → frames ≡ fewer ++ frame ∷ [] →
-    AtEnd (marked_of (reverse frames)) view left → AtEnd (is_marked frame) view left
-at_end_of frames fewer frame view left e end =
-    subst (λ (fs : List Frame). AtEnd (marked_of fs) view left) (innermost fewer frames frame e) end
 
 -- open contents are closed
 pub closed : (frames fewer : List Frame) (frame : Frame) (offset next : ℕ) (view left looked : List ℕ) →
-    frames ≡ fewer ++ frame ∷ [] → AtEnd (marked_of (reverse frames)) view left →
-    looked ≡ next_view frame left → next ≡ offset + (length view - length left) → (lines : List Line)
-    (outcome : Outcome) → Goes (reverse fewer) next looked lines outcome →
-    Goes (reverse frames) offset view lines outcome
+    frames ≡ fewer ++ frame ∷ [] → AtEnd (is_marked frame) view left → looked ≡ left ++ tail_of frame →
+    next ≡ offset + end_width (is_marked frame) → (lines : List Line) (outcome : Outcome) →
+    Goes (reverse fewer) next looked lines outcome → Goes (reverse frames) offset view lines outcome
 closed frames fewer frame offset next view left looked e end l n lines outcome g =
-    let at = at_end_of frames fewer frame view left e end in
     subst (λ (fs : List Frame). Goes fs offset view lines outcome) (sym (innermost fewer frames frame e))
-    (end_next (reverse fewer) frame offset view left next at
-    (omega (arith, n, closed_width frame view left at)) lines outcome
-    (subst (λ (v : List ℕ). Goes (reverse fewer) next v lines outcome) (l ∙ closed_view frame view left at) g))
+    (end_next (reverse fewer) frame offset view left next end n lines outcome
+    (subst (λ (v : List ℕ). Goes (reverse fewer) next v lines outcome) l g))
 
 -- fewer steps are left then
 pub closed_fewer : (frames fewer : List Frame) (frame : Frame) (view left looked : List ℕ) →
-    frames ≡ fewer ++ frame ∷ [] → AtEnd (marked_of (reverse frames)) view left → looked ≡ next_view frame left →
+    frames ≡ fewer ++ frame ∷ [] → AtEnd (is_marked frame) view left → looked ≡ left ++ tail_of frame →
     suc (length looked + behind (reverse fewer) + length fewer) ≤ length view + behind (reverse frames) + length frames
 closed_fewer frames fewer frame view left looked e end l =
     omega (
       arith,
       ap length l,
-      closed_length frame view left (at_end_of frames fewer frame view left e end),
+      length-append left (tail_of frame),
+      closed_width frame view left end,
       ap behind (innermost fewer frames frame e),
       ap length e,
       length-append fewer (frame ∷ []),
     )
+
+-- what is looked at when counted contents end, or marked ones
+abbrev pub next_view : Frame → List ℕ → List ℕ
+next_view (Counted tail) left = tail.now
+next_view Marked left = left
+
+pub at_end_of : (frames fewer : List Frame) (frame : Frame) (view left : List ℕ) → frames ≡ fewer ++ frame ∷ [] →
+    AtEnd (marked_of (reverse frames)) view left → AtEnd (is_marked frame) view left
+at_end_of frames fewer frame view left e end =
+    subst (λ (fs : List Frame). AtEnd (marked_of fs) view left) (innermost fewer frames frame e) end
+
+pub closed_view : (frame : Frame) (view left looked : List ℕ) → AtEnd (is_marked frame) view left →
+    looked ≡ next_view frame left → looked ≡ left ++ tail_of frame
+closed_view (Counted tail) view left looked e l = l ∙ ap (λ (l : List ℕ). l ++ tail.now) (sym e.1)
+closed_view Marked view left looked e l = l ∙ sym (append-nil left)
+
+pub closed_offset : (frame : Frame) (view left : List ℕ) → AtEnd (is_marked frame) view left →
+    length view - length left ≡ end_width (is_marked frame)
+closed_offset (Counted tail) view left e = omega (arith, ap length e.0, ap length e.1)
+closed_offset Marked view left e = omega (arith, ap length e)

@@ -16,7 +16,7 @@ use Rattle.asn1_walk.specs.declared.walk.Step.TheVariants.{Line as an_element, C
 use Rattle.asn1_walk.specs.declared.walk.Ending.{Ending}
 use Rattle.asn1_walk.specs.declared.walk.Ending.TheVariants.{Whole, Refused as Refused_at}
 use Rattle.asn1_walk.specs.Rooms.{behind, is_marked, tail_of}
-use Rattle.asn1_walk.specs.Rows.{Row, Outcome, ended, refused, Tells, Opens}
+use Rattle.asn1_walk.specs.Rows.{Row, Outcome, ended, refused, Tells, Opens, AtEnd, NoElement, end_width}
 use Rattle.asn1_headers.specs.Length.{form_of}
 
 -- so many octets and the rest, or how many are missing
@@ -62,6 +62,35 @@ CanPass w line rest = Comes w line (line.content.now ++ rest) × (line.construct
 -- a walk stands where it stood
 abbrev pub Stays : Walk → Walk → Type 0
 Stays old new = (new.view ≡ old.view) × (new.offset ≡ old.offset) × (new.frames.items ≡ old.frames.items)
+
+-- the walk goes past the primitive element that comes next
+abbrev pub Passes : Walk → Line → Walk → Type 0
+Passes old line new = CanPass old line new.view.now ×
+    (new.offset ≡ old.offset + line.header_len + length line.content.now) × (new.frames.items ≡ old.frames.items)
+
+-- the walk goes into the contents of the element that comes next
+abbrev pub Enters : Walk → Line → Walk → Type 0
+Enters old line new = (frame : Frame) × CanOpen old line frame × (new.view.now ≡ line.content.now) ×
+    (new.offset ≡ old.offset + line.header_len) × (new.frames.items ≡ old.frames.items ++ frame ∷ [])
+
+-- the innermost contents that are open end here, and the walk goes on behind them
+abbrev pub Leaves : Walk → Walk → Type 0
+Leaves old new = (frame : Frame) × (left : List ℕ) × AtEnd (is_marked frame) old.view.now left ×
+    (new.view.now ≡ left ++ tail_of frame) × (new.offset ≡ old.offset + end_width (is_marked frame)) ×
+    (old.frames.items ≡ new.frames.items ++ frame ∷ [])
+
+-- neither an end nor an element comes next
+abbrev pub ComesNone : Walk → Fault → Type 0
+ComesNone w fault = ((rest : List ℕ) → AtEnd (marked_of (reverse w.frames.items)) w.view.now rest → ⊥) ×
+    NoElement w.view.now fault
+
+-- What a step finds is what stands there: the element that comes next, the end of what is open, the end of all, or
+-- octets that begin no element.
+abbrev pub Finds : Step → Walk → Walk → Type 0
+Finds (an_element line) old new = Passes old line new ⊎ Enters old line new
+Finds Closed old new = Leaves old new
+Finds End old new = (old.frames.items ≡ []) × (old.view.now ≡ []) × Stays old new
+Finds (Refused r) old new = (fault : Fault) × ComesNone old fault × (r ≡ ber_refusal fault) × Stays old new
 
 -- as many steps as a walk can still make, but for the last one
 abbrev pub steps_left : Walk → ℕ

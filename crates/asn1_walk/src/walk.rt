@@ -4,7 +4,7 @@ ghost use Rattle.x690.specs.Rules.{ber_rule};
 ghost use Rattle.x690.specs.Faults.{HeaderFault};
 ghost use Rattle.asn1_headers.specs.Header.Reading.{Refused, ber_refusal};
 ghost use Rattle.asn1_walk.specs.Rows.{AtEnd};
-ghost use Rattle.asn1_walk.specs.Walks.{Moves, Stays, Comes, CanOpen, CanPass, Splits, ComesOut, marked_of};
+ghost use Rattle.asn1_walk.specs.Walks.{Moves, Stays, Finds, Comes, CanOpen, CanPass, Splits, ComesOut, marked_of};
 
 use crate::line::Line;
 use crate::state::{Frame, Walk};
@@ -88,7 +88,7 @@ impl<'a> Walk<'a> {
     /// Closes the innermost contents that are open, or ends the walk.
     fn close(&mut self, left: &'a [u8]) -> Step<'a>
         requires { AtEnd (marked_of (reverse self.old.frames.items)) self.old.view.now left.now }
-        ensures { Moves result self.old self.new }
+        ensures { Finds result self.old self.new }
     {
         match self.frames.pop() {
             Some(frame) => {
@@ -127,7 +127,7 @@ impl<'a> Walk<'a> {
     /// Goes into the contents of the element that comes next.
     fn open(&mut self, line: Line<'a>, frame: Frame<'a>) -> Result<Step<'a>, AllocError>
         requires { CanOpen self.old line frame }
-        ensures moves { IfOk result (λ s. Moves s self.old self.new) }
+        ensures finds { IfOk result (λ s. Finds s self.old self.new) }
         ensures err { OnErr result (Stays self.old self.new) }
     {
         self.frames.push(frame)?;
@@ -139,7 +139,7 @@ impl<'a> Walk<'a> {
     /// Goes past the element that comes next.
     fn pass(&mut self, line: Line<'a>, rest: &'a [u8]) -> Step<'a>
         requires { CanPass self.old line rest.now }
-        ensures { Moves result self.old self.new }
+        ensures { Finds result self.old self.new }
     {
         self.view = rest;
         self.offset += line.header_len + line.content.len();
@@ -150,7 +150,7 @@ impl<'a> Walk<'a> {
     fn enter(&mut self, line: Line<'a>, after: &'a [u8]) -> Result<Step<'a>, AllocError>
         requires comes { Comes self.old line after.now }
         requires content { line.content.now ≡ after.now }
-        ensures moves { IfOk result (λ s. Moves s self.old self.new) }
+        ensures finds { IfOk result (λ s. Finds s self.old self.new) }
         ensures err { OnErr result (Stays self.old self.new) }
     {
         match line.length {
@@ -171,6 +171,7 @@ impl<'a> Walk<'a> {
 
     /// Goes on to the next element, or to the next end.
     pub fn step(&mut self) -> Result<Step<'a>, AllocError>
+        ensures finds { IfOk result (λ s. Finds s self.old self.new) }
         ensures moves { IfOk result (λ s. Moves s self.old self.new) }
         ensures err { OnErr result (Stays self.old self.new) }
     {

@@ -3,7 +3,7 @@ use Rattle.asn1_walk.specs.Rows.{ended, refused}
 use Rattle.asn1_walk.specs.Walks.{Moves}
 use Rattle.asn1_walk.specs.declared.walk.Step.{Step}
 use Rattle.asn1_walk.proofs.Coming.{begun}
-use Rattle.asn1_engine.proofs.OneRow.{ends_or_breaks}
+use Rattle.asn1_walk.proofs.OneRow.{ends_or_breaks}
 use Rattle.asn1_engine.proofs.elements.are_elements.Goals as goal
 
 pub loop-walk-init : goal.loop-walk-init

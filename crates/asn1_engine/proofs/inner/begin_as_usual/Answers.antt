@@ -8,7 +8,7 @@ use Rattle.x690.specs.Laws.Faults.{header_or_fault}
 use Rattle.asn1_headers.specs.Header.{identifier_of}
 use Rattle.asn1_headers.specs.Length.{form_of}
 use Rattle.asn1_engine.specs.Inner.{TellsUsual, is_usual}
-use Rattle.asn1_engine.proofs.OneRow.{apart}
+use Rattle.asn1_walk.proofs.OneRow.{apart}
 use Rattle.asn1_engine.proofs.inner.begin_as_usual.Goals as goal
 
 -- the header that begins the octets tells, since there is one alone

@@ -10,7 +10,7 @@ use Rattle.asn1_engine.specs.Trees.{refusal_text, IsEnd, inner_offset, inner_dep
 use Rattle.asn1_engine.specs.Inner.{IsHeld, HoldsElements, IsNotEntered}
 use Rattle.asn1_engine.specs.declared.trees.Part.{Part}
 use Rattle.asn1_headers.specs.Header.Reading.{ber_refusal}
-use Rattle.asn1_engine.proofs.OneRow.{ends_or_breaks}
+use Rattle.asn1_walk.proofs.OneRow.{ends_or_breaks}
 use Rattle.asn1_engine.proofs.Told.{nothing_told, told_twice}
 use Rattle.asn1_engine.proofs.trees.+parts.Goals as goal
 

@@ -138,6 +138,32 @@ ended_is at to left behind e = subst (Agree (ended at left)) e (refl, refl)
 not_both : (at to : ℕ) (left : List ℕ) (fault : Fault) → ended at left ≡ refused to fault → ⊥
 not_both at to left fault e = subst (Agree (ended at left)) e (refl, refl)
 
+-- what an element with contents to go into makes of a row, by how these come out
+node_here : (marked : Bool) (depth offset : ℕ) (octets : List ℕ) (outcome : Outcome) (line : Line) (after : List ℕ)
+    (inner_marked : Bool) (tail : List ℕ) (inner : List Line) (inner_outcome : Outcome) →
+    Tells marked depth offset octets line after → line.constructed ≡ true →
+    Opens (form_of line.length) after inner_marked line.content.now tail →
+    Row inner_marked (suc depth) (offset + line.header_len) line.content.now inner inner_outcome →
+    ((at : ℕ) (left : List ℕ) → inner_outcome ≡ ended at left →
+    (lines : List Line) × Row marked depth at (left ++ tail) lines outcome) →
+    ((at : ℕ) (fault : Fault) → inner_outcome ≡ refused at fault → outcome ≡ refused at fault) →
+    Begins marked depth offset octets outcome
+node_here _ _ _ _ _ line after inner_marked tail inner inner_outcome tells constructed opens inner_row goes_on breaks =
+    inr (inr (inr (record {
+      line = line;
+      after = after;
+      inner_marked = inner_marked;
+      tail = tail;
+      inner = inner;
+      inner_outcome = inner_outcome;
+      tells = tells;
+      constructed = constructed;
+      opens = opens;
+      inner_row = inner_row;
+      goes_on = goes_on;
+      breaks = breaks;
+    })))
+
 begins : (marked : Bool) (depth offset : ℕ) (octets : List ℕ) (lines : List Line) (outcome : Outcome) →
     Row marked depth offset octets lines outcome → Begins marked depth offset octets outcome
 begins _ _ _ _ _ _ (at_end marked depth offset octets rest end) = inl (record { rest = rest; end = end; is = refl })
@@ -146,39 +172,17 @@ begins _ _ _ _ _ _ (at_fault marked depth offset octets fault not_end why) =
 begins _ _ _ _ _ _ (leaf marked depth offset octets line rest lines outcome tells primitive counted row) =
     inr (inr (inl (record { line = line; rest = rest; lines = lines; tells = tells; primitive = primitive; counted = counted; row = row })))
 begins _ _ _ _ _ _ (node marked depth offset octets line after inner_marked tail inner at left lines outcome tells constructed opens inner_row row) =
-    inr (inr (inr (record {
-      line = line;
-      after = after;
-      inner_marked = inner_marked;
-      tail = tail;
-      inner = inner;
-      inner_outcome = ended at left;
-      tells = tells;
-      constructed = constructed;
-      opens = opens;
-      inner_row = inner_row;
-      goes_on = λ to behind e. let p = ended_is at to left behind e in (
-        lines,
-        subst (λ (l : List ℕ). Row marked depth to (l ++ tail) lines outcome) p.1
-            (subst (λ (n : ℕ). Row marked depth n (left ++ tail) lines outcome) p.0 row),
-      );
-      breaks = λ to fault e. absurd (not_both at to left fault e);
-    })))
+    node_here marked depth offset octets outcome line after inner_marked tail inner (ended at left) tells constructed opens
+    inner_row
+    (λ to behind e. let p = ended_is at to left behind e in (
+      lines,
+      subst (λ (l : List ℕ). Row marked depth to (l ++ tail) lines outcome) p.1
+          (subst (λ (n : ℕ). Row marked depth n (left ++ tail) lines outcome) p.0 row),
+    ))
+    (λ to fault e. absurd (not_both at to left fault e))
 begins _ _ _ _ _ _ (broken marked depth offset octets line after inner_marked tail inner at fault tells constructed opens inner_row) =
-    inr (inr (inr (record {
-      line = line;
-      after = after;
-      inner_marked = inner_marked;
-      tail = tail;
-      inner = inner;
-      inner_outcome = refused at fault;
-      tells = tells;
-      constructed = constructed;
-      opens = opens;
-      inner_row = inner_row;
-      goes_on = λ to behind e. absurd (not_both to at behind fault (sym e));
-      breaks = λ to other e. e;
-    })))
+    node_here marked depth offset octets (refused at fault) line after inner_marked tail inner (refused at fault) tells
+    constructed opens inner_row (λ to behind e. absurd (not_both to at behind fault (sym e))) (λ to other e. e)
 
 -- the rest behind an end is one
 same_end : (marked : Bool) (octets rest other : List ℕ) → AtEnd marked octets rest → AtEnd marked octets other → rest ≡ other
