@@ -1,10 +1,5 @@
-mod Numbers
 mod Utf8Lengths
 mod Shown
-mod Scaled
-mod OwnDigits
-mod Negative
-mod Pieces
 mod Told
 mod Gained
 mod Utf8Texts

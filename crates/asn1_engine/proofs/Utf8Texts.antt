@@ -7,8 +7,8 @@ use Rattle.std.proofs.lemmas.Bool.{and_parts, ltb-true, lt-ltb}
 use Rattle.std.proofs.lemmas.Int.Digits.{all_below_base_digits_of}
 use Rattle.hex.specs.Hex.{encode_lower, encode_with, lower_digits}
 use Rattle.json.proofs.Printed.Utf8.{are_ascii}
-use Rattle.asn1_engine.specs.Words.{number_text, integer_text, left_out_text, cut_text}
-use Rattle.asn1_engine.specs.Numbers.{arcs_text, more_arcs_text}
+use Rattle.asn1_words.specs.Words.{number_text, integer_text, left_out_text, cut_text}
+use Rattle.asn1_words.specs.Numbers.{arcs_text, more_arcs_text}
 
 abbrev pub IsAsciiText : List ℕ → Type 0
 IsAsciiText text = are_ascii text ≡ true

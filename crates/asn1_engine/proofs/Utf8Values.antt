@@ -15,8 +15,8 @@ use Rattle.asn1_walk.specs.declared.line.Line.{Line}
 use Rattle.x690.specs.Digits.{twos_complement_value}
 use Rattle.asn1_engine.specs.declared.texts.Coding.{Coding}
 use Rattle.asn1_engine.specs.declared.texts.Coding.TheVariants.{Utf8, Ascii, Utf16, Ucs4}
-use Rattle.asn1_engine.specs.Words.{number_text, integer_text, left_out_text, cut_text}
-use Rattle.asn1_engine.specs.Numbers.{arcs, arcs_text, are_shown}
+use Rattle.asn1_words.specs.Words.{number_text, integer_text, left_out_text, cut_text}
+use Rattle.asn1_words.specs.Numbers.{arcs, arcs_text, are_shown}
 use Rattle.asn1_engine.specs.Visible.{is_shown_as_it_is}
 use Rattle.asn1_engine.specs.Texts.{Begins, ShowsFirst, Shows, IsQuoted, character_text, end_text, escape_text, is_marked_character}
 use Rattle.asn1_engine.specs.Values.{octets_text, truth_text, whole_number_text, bits_text, name_text, shown_arcs_text}

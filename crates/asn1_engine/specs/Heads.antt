@@ -7,7 +7,7 @@ use Rattle.asn1_headers.specs.declared.class.Class.TheVariants.{Universal, Appli
 use Rattle.asn1_headers.specs.declared.length.Length.{Length}
 use Rattle.asn1_headers.specs.declared.length.Length.TheVariants.{Definite, Indefinite}
 use Rattle.asn1_walk.specs.declared.line.Line.{Line}
-use Rattle.asn1_engine.specs.Words.{spaces, right, left, number_text}
+use Rattle.asn1_words.specs.Words.{spaces, right, left, number_text}
 
 -- the names of the universal types by their tag numbers, empty where there is none (X.680 8.6, table 1)
 abbrev pub type_names : List (List ℕ)

@@ -6,11 +6,9 @@ pub mod Heads
 pub mod Inner
 pub mod Lines
 pub mod Messages
-pub mod Numbers
 pub mod Objects
 pub mod Texts
 pub mod Trees
 pub mod Values
-pub mod Words
 pub mod Verdicts
 pub mod Wording

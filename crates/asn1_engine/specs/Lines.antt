@@ -8,7 +8,7 @@ use Rattle.asn1_walk.specs.declared.line.Line.{Line}
 use Rattle.asn1_engine.specs.declared.texts.Coding.{Coding}
 use Rattle.asn1_engine.specs.declared.texts.Coding.TheVariants.{Utf8, Ascii, Utf16, Ucs4}
 use Rattle.asn1_engine.specs.Heads.{head_text}
-use Rattle.asn1_engine.specs.Numbers.{are_shown}
+use Rattle.asn1_words.specs.Numbers.{are_shown}
 use Rattle.asn1_engine.specs.Texts.{IsQuoted}
 use Rattle.asn1_engine.specs.Values.{octets_text, truth_text, whole_number_text, bits_text, identifier_text}
 

@@ -4,7 +4,7 @@ use Rattle.std.specs.Prelude.{encode_utf8, nat_eq, ◌||◌, if◌then◌else◌
 use Rattle.std.specs.Fmt.{radix_digits}
 use Rattle.hex.specs.Hex.{encode_lower}
 use Rattle.x690.specs.Characters.{BeginsWithCharacter, utf16_octets_of, ucs4_octets_of}
-use Rattle.asn1_engine.specs.Words.{left_out_text}
+use Rattle.asn1_words.specs.Words.{left_out_text}
 use Rattle.asn1_engine.specs.Visible.{is_shown_as_it_is}
 use Rattle.asn1_engine.specs.declared.texts.Coding.{Coding}
 use Rattle.asn1_engine.specs.declared.texts.Coding.TheVariants.{Utf8, Ascii, Utf16, Ucs4}

@@ -10,8 +10,8 @@ use Rattle.asn1_headers.specs.Header.Reading.{ber_refusal}
 use Rattle.asn1_walk.specs.declared.line.Line.{Line}
 use Rattle.asn1_walk.specs.Rows.{Row, Outcome, ended, refused}
 use Rattle.asn1_engine.specs.declared.trees.Options.{Options}
+use Rattle.asn1_words.specs.Words.{right, number_text}
 use Rattle.asn1_engine.specs.Findings.{IsFirst, HasNoFirst}
-use Rattle.asn1_engine.specs.Words.{right, number_text}
 use Rattle.asn1_engine.specs.Lines.{IsLineText}
 use Rattle.asn1_engine.specs.Inner.{IsHeld, HoldsElements, IsNotEntered}
 use Rattle.asn1_engine.specs.Objects.{IsObjectText, refusal_object_text}

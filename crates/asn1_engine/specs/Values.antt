@@ -3,8 +3,8 @@ use Rattle.std.specs.Prelude.{ℕ, ◌*◌, ◌-◌, ◌/◌, Bool, List, [], �
 use Rattle.std.specs.Prelude.{nat_lt, nat_le, nat_eq, if◌then◌else◌, ◌&&◌, ◌||◌, Option, Some, None}
 use Rattle.hex.specs.Hex.{encode_lower}
 use Rattle.x690.specs.Digits.{twos_complement_value}
-use Rattle.asn1_engine.specs.Words.{number_text, integer_text, left_out_text, cut_text}
-use Rattle.asn1_engine.specs.Numbers.{arcs_text, arcs, are_shown}
+use Rattle.asn1_words.specs.Words.{number_text, integer_text, left_out_text, cut_text}
+use Rattle.asn1_words.specs.Numbers.{arcs_text, arcs, are_shown}
 
 -- octets in hexadecimal within so many columns, and how many they are where not all are shown
 abbrev pub octets_text : ℕ → List ℕ → List ℕ

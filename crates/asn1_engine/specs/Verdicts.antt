@@ -16,7 +16,7 @@ use Rattle.asn1_strict.specs.Departures.{DepartsFromDer}
 use Rattle.asn1_engine.specs.declared.error.Finding.{Finding}
 use Rattle.asn1_engine.specs.declared.error.Finding.TheVariants.{Holds, Refused}
 use Rattle.asn1_engine.specs.Standing.{IsFront, standing_text}
-use Rattle.asn1_engine.specs.Words.{number_text}
+use Rattle.asn1_words.specs.Words.{number_text}
 use Rattle.asn1_engine.specs.Wording.{words_of}
 
 -- what is wrong, its section, what stands there, and what would be right

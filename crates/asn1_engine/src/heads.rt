@@ -3,10 +3,10 @@ ghost use Rattle.std.specs.Prelude.{◌≡◌, ◌++◌, OnOk};
 ghost use Rattle.asn1_engine.specs.Heads.{depth_text, form_text, head_text, is_mostly_constructed, length_text};
 
 use crate::tags::push_tag;
-use crate::words::{push_left, push_number, push_right, push_spaces, push_str};
 use asn1_headers::class::Class;
 use asn1_headers::length::Length;
 use asn1_walk::Line;
+use asn1_words::words::{push_left, push_number, push_right, push_spaces, push_str};
 use std::alloc::AllocError;
 
 /// Elements in more elements than these are not set further in, and tell their depth.

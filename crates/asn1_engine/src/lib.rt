@@ -1,12 +1,10 @@
 //! What the program `asn1` says of octets: the tree of their elements, and whether they are strict DER.
 #![tactic(auto)]
 
-pub mod decimals;
 pub mod departures;
 mod elements;
 pub mod error;
 pub mod heads;
-pub mod identifiers;
 mod inner;
 pub mod objects;
 pub mod outcome;
@@ -18,7 +16,6 @@ pub mod trees;
 pub mod values;
 pub mod verdicts;
 mod wording;
-pub mod words;
 
 pub use error::{Finding, RunError};
 pub use trees::{Options, dump, dump_at};

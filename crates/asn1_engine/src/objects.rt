@@ -7,13 +7,13 @@ ghost use Rattle.asn1_engine.specs.Lines.{IsValueText};
 ghost use Rattle.asn1_engine.specs.Objects.{Gains, IsObjectText, class_word, length_token, member_tokens, object_text};
 ghost use Rattle.asn1_engine.specs.Objects.{place_tokens, refusal_object_text, refusal_tokens, tag_tokens, value_tokens};
 
-use crate::standing::behind;
 use crate::tags::push_tag;
 use crate::values::push_value;
-use crate::words::push_str;
 use asn1_headers::class::Class;
 use asn1_headers::length::Length;
 use asn1_walk::Line;
+use asn1_words::octets::behind;
+use asn1_words::words::push_str;
 use json::Writer;
 use std::alloc::{AllocError, Global};
 

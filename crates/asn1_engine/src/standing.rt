@@ -2,24 +2,13 @@
 ghost use Rattle.std.specs.Prelude.{◌≡◌, ◌++◌, take, drop, OnOk};
 ghost use Rattle.asn1_engine.specs.Standing.{IsFront, mark_text, more_octets_text, spaced_text, standing_text};
 
-use crate::words::{push_hexadecimal, push_str};
 use asn1_headers::der::element_by_der;
+use asn1_words::octets::behind;
+use asn1_words::words::{push_hexadecimal, push_str};
 use std::alloc::AllocError;
 
 /// As many octets are shown.
 const MOST_SHOWN: usize = 24;
-
-/// The octets from an offset on, or none where there are fewer.
-#[tactic(auto, using(std::proofs::lemmas::List::drop_all))]
-pub fn behind(octets: &[u8], offset: usize) -> &[u8]
-    ensures { result.now ≡ drop offset octets.now }
-{
-    if octets.len() < offset {
-        return &[];
-    }
-    let (_front, rest) = octets.split_at(offset);
-    rest
-}
 
 /// The octets of the element by DER that begins these, or all where none does.
 fn front(octets: &[u8]) -> &[u8]

@@ -1,11 +1,11 @@
 //! Tags in the standard's words (X.680 8).
 ghost use Rattle.std.specs.Prelude.{◌≡◌, ◌++◌, codes, OnOk, IfSome, IfNone};
 ghost use Rattle.asn1_headers.specs.declared.class.Class.TheVariants.{Universal};
-ghost use Rattle.asn1_engine.specs.Words.{number_text};
+ghost use Rattle.asn1_words.specs.Words.{number_text};
 ghost use Rattle.asn1_engine.specs.Heads.{tag_text};
 
-use crate::words::{push_number, push_str};
 use asn1_headers::class::Class;
+use asn1_words::words::{push_number, push_str};
 use std::alloc::AllocError;
 
 /// The name of the type with a universal tag (X.680 8.6, table 1).

@@ -7,8 +7,8 @@ ghost use Rattle.asn1_engine.specs.Visible.{MayBeShown, is_shown_as_it_is};
 ghost use Rattle.asn1_engine.specs.Texts.{Begins, IsQuoted, Shows, ShowsFirst, character_text, end_text, escape_text};
 ghost use Rattle.asn1_engine.specs.Texts.{is_marked_character};
 
-use crate::standing::behind;
-use crate::words::{push_hexadecimal, push_left_out, push_str};
+use asn1_words::octets::behind;
+use asn1_words::words::{push_hexadecimal, push_left_out, push_str};
 use std::alloc::{AllocError, Global};
 use x690::characters::{CharacterCode, Ucs4, Utf16};
 

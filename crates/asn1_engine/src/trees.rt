@@ -3,7 +3,7 @@ ghost use Rattle.std.specs.Prelude.{◌≡◌, ◌≤◌, ◌++◌, ◌∷◌, [
 ghost use Rattle.std.specs.Prelude.{MatchOption};
 ghost use Rattle.std.specs.Io.KnownBytes.{Appends};
 ghost use Rattle.asn1_engine.specs.Findings.{FindsElements, FindsAt, HasNoFirst, IsFirst};
-ghost use Rattle.asn1_engine.specs.Words.{right, number_text};
+ghost use Rattle.asn1_words.specs.Words.{right, number_text};
 ghost use Rattle.asn1_engine.specs.Lines.{IsLineText};
 ghost use Rattle.asn1_engine.specs.Trees.{IsRefusalLine, IsShown, IsTree, IsTreeAt, Writes, inner_depth};
 ghost use Rattle.asn1_engine.specs.Inner.{IsHeld, HoldsElements, IsNotEntered};
@@ -15,12 +15,12 @@ use crate::error::{Finding, RunError};
 use crate::heads::push_head;
 use crate::inner::elements_held;
 use crate::objects::{push_object, push_refusal_object};
-use crate::standing::behind;
 use crate::values::push_value;
-use crate::words::{push_right, push_str};
 use asn1_headers::ber::{Steps, element_to_depth};
 use asn1_headers::error::{Err, Error};
 use asn1_walk::{Line, Step, Walk};
+use asn1_words::octets::behind;
+use asn1_words::words::{push_right, push_str};
 use std::alloc::{AllocError, Global};
 use std::io::Write;
 

@@ -2,17 +2,20 @@
 ghost use Rattle.std.specs.Prelude.{◌≡◌, ◌++◌, List, ℕ, Option, option_map, false, true, OnOk};
 ghost use Rattle.asn1_engine.specs.Values.{bits_text, identifier_text, name_text, octets_text, truth_text};
 ghost use Rattle.asn1_engine.specs.Values.{shown_arcs_text, whole_number_text};
-ghost use Rattle.asn1_engine.specs.Numbers.{are_shown};
+ghost use Rattle.asn1_words.specs.Numbers.{are_shown};
 ghost use Rattle.asn1_engine.specs.Lines.{IsContentText, IsShownName, IsValueText, sort_of_number};
 
-use crate::decimals::{MOST_DECIMAL, push_integer};
-use crate::identifiers::{have_arcs, push_arcs};
 use crate::texts::{Coding, push_quoted};
-use crate::words::{cut_behind, push_hexadecimal, push_left_out, push_long, push_str};
 use asn1_headers::class::Class;
 use asn1_names::name_of;
 use asn1_walk::Line;
+use asn1_words::decimals::push_integer;
+use asn1_words::identifiers::{have_arcs, push_arcs};
+use asn1_words::words::{cut_behind, push_hexadecimal, push_left_out, push_long, push_str};
 use std::alloc::{AllocError, Global};
+
+/// As many octets of an integer are shown in decimals; more are shown in hexadecimal.
+const MOST_DECIMAL: usize = 40;
 
 /// The arcs of as many octets are shown whatever the width is.
 const MOST_WHOLE: usize = 40;

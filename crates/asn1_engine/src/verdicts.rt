@@ -9,14 +9,15 @@ ghost use Rattle.asn1_engine.specs.Verdicts.{IsDepartureLine, IsElementVerdict, 
 ghost use Rattle.asn1_engine.specs.Verdicts.{NothingHolds, departure_text, finding_of, rule_text, strict_text};
 
 use crate::error::{Finding, RunError};
-use crate::standing::{behind, push_standing, word_at};
+use crate::standing::{push_standing, word_at};
 use crate::wording::{Words, words_of};
-use crate::words::{push_number, push_str};
 use asn1_headers::header::reading::header_by_der;
 use asn1_strict::requirement::requirement_of;
 use asn1_strict::rules::departure_of;
 use asn1_strict::{Departure, Requirement, departure_of_der};
 use asn1_walk::{Line, Step, Walk};
+use asn1_words::octets::behind;
+use asn1_words::words::{push_number, push_str};
 use std::alloc::{AllocError, Global};
 use std::io::Write;
 

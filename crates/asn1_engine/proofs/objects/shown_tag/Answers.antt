@@ -5,7 +5,7 @@ use Rattle.asn1_headers.specs.Tag.{text_or}
 use Rattle.asn1_headers.specs.declared.class.Class.{Class}
 use Rattle.asn1_headers.specs.declared.class.Class.TheVariants.{Universal, Application, ContextSpecific, Private}
 use Rattle.asn1_engine.specs.Heads.{tag_text, type_name, type_names}
-use Rattle.asn1_engine.specs.Words.{number_text}
+use Rattle.asn1_words.specs.Words.{number_text}
 use Rattle.asn1_engine.proofs.Utf8Texts.{IsAsciiText, both, number_is_ascii}
 use Rattle.asn1_engine.proofs.objects.shown_tag.Goals as goal
 

@@ -1,7 +1,7 @@
 use Rattle.std.proofs.Common.{[], ◌++◌, ◌≤◌, List, ℕ, ap, arith, codes}
 use Rattle.std.proofs.lemmas.List.{get_or_past}
 use Rattle.asn1_headers.specs.Tag.{text_or}
-use Rattle.asn1_engine.specs.Words.{number_text}
+use Rattle.asn1_words.specs.Words.{number_text}
 use Rattle.asn1_engine.specs.Heads.{type_names}
 use Rattle.asn1_engine.proofs.tags.universal_name.Goals as goal
 

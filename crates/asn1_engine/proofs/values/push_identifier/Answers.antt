@@ -1,5 +1,5 @@
 use Rattle.std.proofs.Common.{◌≡◌, ℕ, Bool, true, List, ◌++◌, Option, option_map, refl, ap, sym, ◌∙◌, append_assoc}
-use Rattle.asn1_engine.specs.Numbers.{are_shown}
+use Rattle.asn1_words.specs.Numbers.{are_shown}
 use Rattle.asn1_engine.specs.Values.{identifier_text, name_text, shown_arcs_text}
 use Rattle.asn1_engine.proofs.values.push_identifier.Goals as goal
 

@@ -1,0 +1,6 @@
+mod Numbers
+mod Scaled
+mod OwnDigits
+mod FewOctets
+mod Negative
+mod Pieces
