@@ -107,7 +107,7 @@ kind_text named plain labels (Some node) =
     kind_word node.kind ++ inner_text named plain node.kind ++ end_text labels node.kind
 
 -- The kind of the type at a place, by so many types that it leads to. A member has its name, or else its kind.
-abbrev pub type_text : ℕ → List Node → List TypeNames → ℕ → List ℕ
+unfoldable pub type_text : ℕ → List Node → List TypeNames → ℕ → List ℕ
 type_text zero table names of = codes ".."
 type_text (suc depth) table names of =
     kind_text (λ inner. text_or (name_in (slice_get names inner)) (type_text depth table names inner))

@@ -204,6 +204,7 @@ fn push_inner(
     }
 }
 
+#[tactic(auto, unfolding(crate::specs::Kinds::type_text))]
 #[cycle(kinds)]
 /// Appends the kind of the type at a place, by so many types that it leads to. A member has its name, or else its kind.
 pub fn push_type(

@@ -47,7 +47,8 @@ fn push_line(
     push_tags_at(text, schema, named.of)?;
     push_str(text, " ")?;
     push_type(text, schema, named.of, MOST_DEPTH)?;
-    push_str(text, "\n")
+    push_str(text, "\n")?;
+    Ok(())
 }
 
 /// Appends a line for each type.

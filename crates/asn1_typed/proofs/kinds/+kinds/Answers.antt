@@ -10,6 +10,7 @@ use Rattle.asn1_typed.proofs.kinds.+kinds.Goals as goal
 type_by_more : (depth : ℕ) (table : List Node) (names : List TypeNames) (of : ℕ) → (depth ≡ 0 → ⊥) →
     type_text depth table names of ≡ kind_text (named_text (depth - 1) table names) (type_text (depth - 1) table names)
     (labels_in (slice_get names of)) (slice_get table of)
+unfolding type_text
 type_by_more zero table names of some = absurd (some refl)
 type_by_more (suc depth) table names of some =
     let e : depth ≡ suc depth - 1 = omega arith in
