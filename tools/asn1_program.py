@@ -5,7 +5,7 @@
 
 The program is what `rt run` leaves in `crates/asn1/out/asn1`. Each certificate of /etc/ssl/certs must have the offsets, depths and
 lengths that `openssl asn1parse` prints; each of some thousand changed certificates the verdict of the model, with the
-offset and the section of X.690; odd files their statuses and lines. What does otherwise has a line, and then this ends
+offset and the section of X.690; odd files and modules their statuses and lines. What does otherwise has a line, and then this ends
 with status 1. The last line counts the rows.
 """
 import json
@@ -273,11 +273,56 @@ def failures(program, room):
     yield "a pipe that nobody reads", (ended.returncode, ended.stderr), (2, b"asn1: output failed\n")
 
 
+MODULES = [
+    ("types of each kind", b"""M DEFINITIONS ::= BEGIN
+A ::= SEQUENCE { b B OPTIONAL, c [0] IMPLICIT C }
+B ::= CHOICE { utcTime UTCTime, number INTEGER { one(1) } }
+C ::= SEQUENCE OF A
+D ::= [APPLICATION 5] INTEGER (-1..MAX)
+E ::= ENUMERATED { red, green(5) }
+F ::= SET SIZE (1..2) OF RELATIVE-OID
+G ::= [PRIVATE 1] EXPLICIT ANY
+END
+""", 0, [b"M.A: [UNIVERSAL 16] SEQUENCE { b, c }", b"M.B: [UNIVERSAL 23] [UNIVERSAL 2] CHOICE { utcTime, number }",
+         b"M.C: [UNIVERSAL 16] SEQUENCE OF A", b"M.D: [APPLICATION 5] EXPLICIT INTEGER within -1..MAX",
+         b"M.E: [UNIVERSAL 10] ENUMERATED { red, green }", b"M.F: [UNIVERSAL 17] SET OF RELATIVE-OID within 1..2",
+         b"M.G: [PRIVATE 1] EXPLICIT ANY", b"sound"]),
+    ("fields that are not told apart", b"M DEFINITIONS ::= BEGIN\nP ::= SEQUENCE { a BOOLEAN OPTIONAL, b BOOLEAN }\nEND\n", 1,
+     [b"M.P: [UNIVERSAL 16] SEQUENCE { a, b }",
+      b"not sound: P: the fields a and b have the tag [UNIVERSAL 1] in common"]),
+    ("a note", b"M DEFINITIONS ::= BEGIN\nP ::= IA5String (FROM (\"a\"))\nEND\n", 0,
+     [b"M.P: [UNIVERSAL 22] IA5String", b"FILE:2:17: a constraint is not judged", b"sound"]),
+    ("a mistake", b"M DEFINITIONS ::= BEGIN\nP ::= SEQUENCE { a }\nEND\n", 1, [b"FILE:2:20: expected a type"]),
+    ("an octet that is no token", b"\xff", 1, [b"FILE:1:1: no token of ASN.1 begins here"]),
+]
+BUILT_IN = [
+    b"PKIX1Explicit88.Certificate: [UNIVERSAL 16] SEQUENCE { tbsCertificate, signatureAlgorithm, signature }",
+    b"KerberosV5Spec2.Ticket: [APPLICATION 1] EXPLICIT SEQUENCE { tkt-vno, realm, sname, enc-part }",
+    b"Lightweight-Directory-Access-Protocol-V3.UnbindRequest: [APPLICATION 2] NULL",
+]
+
+
+def modules(program, room):
+    """Yields what is told of the types of modules."""
+    path = room / "module"
+    for name, text, status, lines in MODULES:
+        path.write_bytes(text)
+        ended = run(program, "types", "--module", path)
+        expected = [line.replace(b"FILE", bytes(path)) for line in lines]
+        yield f"types, {name}", (ended.returncode, ended.stdout.splitlines()), (status, expected)
+    ended = run(program, "types")
+    lines = ended.stdout.splitlines()
+    yield "types that are built in", (ended.returncode, lines[-1:], set(BUILT_IN) - set(lines)), (0, [b"sound"], set())
+    ended = run(program, "types", "--module", room / "none")
+    yield "types, no such file", (ended.returncode, ended.stderr.count(b"\n"), ended.stdout), (2, 1, b"")
+
+
 def main():
     with tempfile.TemporaryDirectory(prefix="asn1-") as name:
         room, wrong, count = pathlib.Path(name), 0, 0
         program = sys.argv[1]
-        for rows in (trees(program), odd_files(program, room), failures(program, room), verdicts(program, room, 5000)):
+        for rows in (trees(program), odd_files(program, room), failures(program, room), modules(program, room),
+                     verdicts(program, room, 5000)):
             for what, seen, expected in rows:
                 count += 1
                 if seen != expected:

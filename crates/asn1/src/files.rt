@@ -1,7 +1,9 @@
 //! Files, and the octets that they hold.
 ghost use Rattle.std.specs.Prelude.{◌≤◌, IfOk, length};
 
+use asn1_engine::outcome::Outcome;
 use asn1_engine::pem::{PemError, blocks, is_pem};
+use asn1_engine::{Finding, RunError};
 use base64::DecodeAllocError;
 use base64::engine::general_purpose::STANDARD;
 use hex::FromHexError;
@@ -94,6 +96,17 @@ impl From<PemError> for FileError {
             other => FileError::Pem(other),
         }
     }
+}
+
+/// How a call ends with a file that has no octets to look at, which is told on standard error.
+pub fn told<R: Eprint>(rt: &R, path: &str, error: &FileError) -> Result<Outcome, RunError> {
+    let outcome = match error {
+        FileError::Unreadable(_) | FileError::TooLong(_) => Outcome::Unreadable,
+        FileError::OutOfMemory => return Err(RunError::OutOfMemory),
+        _ => Outcome::Found(Finding::Refused),
+    };
+    let _ = eprintln!(rt; "asn1: {path}: {error}");
+    Ok(outcome)
 }
 
 /// All that a file has, or standard input for `-`.

@@ -2,6 +2,7 @@
 #![tactic(auto)]
 
 mod files;
+mod modules;
 mod run;
 mod words;
 

@@ -1,7 +1,8 @@
 //! A call of the program.
 
-use crate::files::{Document, FileError, documents, read};
-use crate::words::{Call, Task, asked, command};
+use crate::files::{Document, FileError, documents, read, told};
+use crate::modules::answer_types;
+use crate::words::{Call, Task, asked, command, modules, most};
 use asn1_engine::outcome::{FAILED, Outcome};
 use asn1_engine::{Finding, RunError, check, check_all, dump, dump_at};
 use std::alloc::Global;
@@ -55,15 +56,7 @@ fn answer_file<R: Files + Input + Eprint + AllocGlobal, W: Write>(
 ) -> Result<Outcome, RunError> {
     let found = match open(rt, call, path) {
         Ok(found) => found,
-        Err(error) => {
-            let outcome = match &error {
-                FileError::Unreadable(_) | FileError::TooLong(_) => Outcome::Unreadable,
-                FileError::OutOfMemory => return Err(RunError::OutOfMemory),
-                _ => Outcome::Found(Finding::Refused),
-            };
-            let _ = eprintln!(rt; "asn1: {path}: {error}");
-            return Ok(outcome);
-        }
+        Err(error) => return told(rt, path, &error),
     };
     let titled = titled || found.len() > 1;
     let mut finding = Finding::Holds;
@@ -102,6 +95,9 @@ fn run<R: Files + Env + Input + Print + Eprint + AllocGlobal>(rt: &R) -> anyhow:
     let Some((name, inner)) = matches.subcommand() else {
         return Ok(FAILED);
     };
+    if name == "types" {
+        return Ok(answer_types(rt, modules(inner), most(inner))?.status());
+    }
     let Some(paths) = inner.get_strs("file") else {
         return Ok(FAILED);
     };

@@ -49,7 +49,17 @@ fn flag<'a>(alloc: Global, id: &'a str, help: &'a str) -> Arg<'a> {
         .action(ArgAction::SetTrue)
 }
 
-/// Adds what both commands have.
+/// The option that limits files.
+fn most_octets<'a>(alloc: Global) -> Arg<'a> {
+    number(
+        alloc,
+        "max-octets",
+        "COUNT",
+        "Files of more octets are refused; 1073741824 by itself",
+    )
+}
+
+/// Adds what commands have that read octets.
 fn with_files<'a>(alloc: Global, command: Command<'a>) -> Result<Command<'a>, AllocError> {
     let form = Arg::new(alloc, "from")
         .long("from")
@@ -57,12 +67,7 @@ fn with_files<'a>(alloc: Global, command: Command<'a>) -> Result<Command<'a>, Al
         .help("How the files hold octets: PEM where a line begins a block, else as they are")
         .value_parser(["auto", "der", "pem", "hex", "base64"].as_slice())
         .action(ArgAction::Set);
-    let most = number(
-        alloc,
-        "max-octets",
-        "COUNT",
-        "Files of more octets are refused; 1073741824 by itself",
-    );
+    let most = most_octets(alloc);
     let file = Arg::new(alloc, "file")
         .value_name("FILE")
         .help("A file, or - for standard input")
@@ -117,24 +122,53 @@ fn check_command<'a>(alloc: Global) -> Result<Command<'a>, AllocError> {
     with_files(alloc, command)
 }
 
+/// The words of `types`.
+fn types_command<'a>(alloc: Global) -> Result<Command<'a>, AllocError> {
+    let module = Arg::new(alloc, "module")
+        .long("module")
+        .value_name("FILE")
+        .help(
+            "A file of ASN.1 modules, or - for standard input; without one, those that are built in",
+        )
+        .action(ArgAction::Append);
+    Command::new(alloc, "types")
+        .about(
+            "Prints the types of modules, a line each, what is left out, and whether they are sound",
+        )
+        .after_help("Example: asn1 types --module names.asn1 --module certificates.asn1")
+        .arg(module)?
+        .arg(most_octets(alloc))
+}
+
 /// The program's own words.
 pub fn command<'a>(alloc: Global) -> Result<Command<'a>, AllocError> {
     Command::new(alloc, "asn1")
         .version("0.1")
-        .about("Shows what is in files of ASN.1")
+        .about("Shows what is in files of ASN.1, and the types of modules")
         .after_help(
             "Example: asn1 dump certificate.pem\n\nStatus: 0, or 1 for refused octets, or 2 for any other failure",
         )
         .subcommand_required(true)
         .arg_required_else_help(true)
         .subcommand(dump_command(alloc)?)?
-        .subcommand(check_command(alloc)?)
+        .subcommand(check_command(alloc)?)?
+        .subcommand(types_command(alloc)?)
 }
 
 /// A number that a call gives.
 fn given(matches: &ArgMatches<'_>, id: &str) -> Option<usize> {
     let number = matches.get_one::<u64>(id)?;
     Some(number as usize)
+}
+
+/// As many octets of a file are read at most.
+pub fn most(matches: &ArgMatches<'_>) -> u64 {
+    matches.get_one::<u64>("max-octets").unwrap_or(MOST_OCTETS)
+}
+
+/// The files of modules that a call names.
+pub fn modules<'m>(matches: &'m ArgMatches<'_>) -> &'m [&'m str] {
+    matches.get_strs("module").unwrap_or(&[])
 }
 
 /// What the words ask for.
@@ -157,6 +191,6 @@ pub fn asked(name: &str, matches: &ArgMatches<'_>) -> Call {
         Some("base64") => Form::Base64,
         _ => Form::Told,
     };
-    let most = matches.get_one::<u64>("max-octets").unwrap_or(MOST_OCTETS);
+    let most = most(matches);
     Call { task, form, most }
 }

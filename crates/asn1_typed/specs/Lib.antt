@@ -1,0 +1,6 @@
+pub mod Kinds
+pub mod Listing
+pub mod Places
+pub mod Readings
+pub mod Refusals
+pub mod Tags

@@ -1,0 +1,28 @@
+-- What is written of octets that are no value of a type.
+use Rattle.std.specs.Prelude.{ℕ, ◌≡◌, List, ◌++◌, codes}
+use Rattle.asn1_schema.specs.declared.refusal.Reason.{Reason}
+use Rattle.asn1_schema.specs.declared.refusal.Reason.TheVariants as reasons
+use Rattle.asn1_schema.specs.declared.refusal.Refusal.{Refusal}
+use Rattle.asn1_schema.specs.declared.schema.Node.{Node}
+use Rattle.asn1_schema.specs.declared.names.TypeNames.{TypeNames}
+use Rattle.asn1_words.specs.Words.{number_text}
+use Rattle.asn1_typed.specs.Kinds.{named_text}
+
+abbrev pub reason_text : Reason → List ℕ
+reason_text reasons.Nothing = codes "nothing is refused"
+reason_text reasons.Depth = codes "elements nest deeper than 64"
+reason_text reasons.MissingType = codes "the table has no such type"
+reason_text reasons.Element = codes "no element begins here, or it is cut"
+reason_text reasons.Tag = codes "the tag is not one of the type"
+reason_text reasons.Form = codes "the element is primitive, and the type is constructed"
+reason_text reasons.Contents = codes "the contents octets have no value of the type"
+reason_text reasons.Bounds = codes "the number or the size is out of bounds"
+reason_text reasons.MissingField = codes "a component is missing"
+reason_text reasons.Default = codes "the default is no value of its type"
+reason_text reasons.TrailingOctets = codes "octets follow where none may"
+
+-- the line of a refusal: the name of the type, or else its kind; and whatever the names of the parts are
+abbrev pub IsRefusalLine : List Node → List TypeNames → List ℕ → Refusal → List ℕ → Type 0
+IsRefusalLine table names name refusal text = (path : List ℕ) × (text ≡ name ++ codes ": octet " ++
+    number_text refusal.octet ++ path ++ codes " (" ++ named_text 16 table names refusal.of ++ codes "): " ++
+    reason_text refusal.reason ++ codes "\n")

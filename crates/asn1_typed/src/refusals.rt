@@ -1,0 +1,57 @@
+//! Why octets are no value of a type, in a line.
+ghost use Rattle.std.specs.Prelude.{◌≡◌, ◌++◌, List, ℕ, OnOk};
+ghost use Rattle.asn1_typed.specs.Refusals.{IsRefusalLine, reason_text};
+
+use crate::kinds::{MOST_DEPTH, push_named};
+use crate::path::push_path;
+use asn1_words::words::{push_number, push_str};
+use asn1_schema::build::Schema;
+use asn1_schema::refusal::{Reason, Refusal};
+use std::alloc::{AllocError, Global};
+
+/// A reason in words.
+fn reason_words(reason: Reason) -> &'static str
+    ensures { result.now ≡ reason_text reason }
+{
+    match reason {
+        Reason::Nothing => "nothing is refused",
+        Reason::Depth => "elements nest deeper than 64",
+        Reason::MissingType => "the table has no such type",
+        Reason::Element => "no element begins here, or it is cut",
+        Reason::Tag => "the tag is not one of the type",
+        Reason::Form => "the element is primitive, and the type is constructed",
+        Reason::Contents => "the contents octets have no value of the type",
+        Reason::Bounds => "the number or the size is out of bounds",
+        Reason::MissingField => "a component is missing",
+        Reason::Default => "the default is no value of its type",
+        Reason::TrailingOctets => "octets follow where none may",
+    }
+}
+
+/// Appends the line of a refusal: the octet, the names of the parts that lead to it as far as they are known, and why.
+pub fn push_refusal(
+    alloc: Global,
+    text: &mut Vec<u8>,
+    name: &str,
+    schema: &Schema<'_>,
+    of: usize,
+    octets: &[u8],
+    refusal: &Refusal,
+) -> Result<(), AllocError>
+    ensures { OnOk result ((line : List ℕ) ×
+        IsRefusalLine schema.now.nodes.items schema.now.names.items name.now refusal.now line ×
+        (text.new.items ≡ text.old.items ++ line)) }
+{
+    let mut path = Vec::new(alloc);
+    push_path(&mut path, schema, of, octets, refusal)?;
+    push_str(text, name)?;
+    push_str(text, ": octet ")?;
+    push_number(text, refusal.octet as u64)?;
+    text.extend_from_slice(path.as_slice())?;
+    push_str(text, " (")?;
+    push_named(text, schema, refusal.of, MOST_DEPTH)?;
+    push_str(text, "): ")?;
+    push_str(text, reason_words(refusal.reason))?;
+    push_str(text, "\n")?;
+    Ok(())
+}
