@@ -44,6 +44,7 @@ kind_word (kinds.Text kind) = text_word kind
 kind_word (kinds.Time kind) = time_word kind
 kind_word kinds.Any = codes "ANY"
 kind_word (kinds.Sequence fields unknown) = codes "SEQUENCE"
+kind_word (kinds.Set fields unknown) = codes "SET"
 kind_word (kinds.SequenceOf of) = codes "SEQUENCE OF "
 kind_word (kinds.SetOf of) = codes "SET OF "
 kind_word (kinds.Choice arms) = codes "CHOICE"
@@ -65,6 +66,7 @@ bounds_text _ = []
 abbrev pub has_parts : Kind → Bool
 has_parts (kinds.Enumerated numbers extensible) = true
 has_parts (kinds.Sequence fields unknown) = true
+has_parts (kinds.Set fields unknown) = true
 has_parts (kinds.Choice arms) = true
 has_parts _ = false
 

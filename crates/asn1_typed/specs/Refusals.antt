@@ -18,6 +18,8 @@ reason_text reasons.Form = codes "the element is primitive, and the type is cons
 reason_text reasons.Contents = codes "the contents octets have no value of the type"
 reason_text reasons.Bounds = codes "the number or the size is out of bounds"
 reason_text reasons.MissingField = codes "a component is missing"
+reason_text reasons.Order = codes "the elements of a set do not ascend by their tags"
+reason_text reasons.Repeated = codes "a component stands there more than once"
 reason_text reasons.Default = codes "the default is no value of its type"
 reason_text reasons.TrailingOctets = codes "octets follow where none may"
 

@@ -60,6 +60,7 @@ fn kind_word(kind: &Kind) -> &'static str
         Kind::Time(kind) => time_word(*kind),
         Kind::Any => "ANY",
         Kind::Sequence(_, _) => "SEQUENCE",
+        Kind::Set(_, _) => "SET",
         Kind::SequenceOf(_) => "SEQUENCE OF ",
         Kind::SetOf(_) => "SET OF ",
         Kind::Choice(_) => "CHOICE",
@@ -74,7 +75,7 @@ fn has_parts(kind: &Kind) -> bool
 {
     matches!(
         kind,
-        Kind::Enumerated(_, _) | Kind::Sequence(_, _) | Kind::Choice(_)
+        Kind::Enumerated(_, _) | Kind::Sequence(_, _) | Kind::Set(_, _) | Kind::Choice(_)
     )
 }
 

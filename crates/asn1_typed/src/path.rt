@@ -147,11 +147,13 @@ fn is_missing(fields: &[Field], from: usize, refusal: &Refusal) -> bool {
     }
 }
 
-/// The component of contents octets that holds the octet of a refusal, or is missing there. Its name is appended.
+/// The component of contents octets that holds the octet of a refusal, or is missing there. Its name is appended. Those
+/// of a sequence stand in their order.
 fn component<'a>(
     text: &mut Vec<u8>,
     schema: &Schema<'_>,
     fields: &[Field],
+    is_ordered: bool,
     within: Step<'a>,
     refusal: &Refusal,
 ) -> Result<Option<Step<'a>>, AllocError> {
@@ -170,7 +172,12 @@ fn component<'a>(
         };
         let len = element.header.saturating_add(element.content.len());
         let end = at.saturating_add(len);
-        let goes_on = end <= refusal.octet && is_missing(fields, place.saturating_add(1), refusal);
+        from = if is_ordered {
+            place.saturating_add(1)
+        } else {
+            0
+        };
+        let goes_on = end <= refusal.octet && is_missing(fields, from, refusal);
         if stands_before(refusal, end) && !goes_on {
             push_part(text, schema, within.of, place)?;
             let of = match fields.get(place) {
@@ -183,7 +190,6 @@ fn component<'a>(
                 at,
             }));
         }
-        from = place.saturating_add(1);
         rest = behind(rest, len);
         at = end;
     }
@@ -256,7 +262,8 @@ fn next<'a>(
         _ if refusal.octet < within.at => Ok(None),
         Kind::Explicit(of) => Ok(Some(Step { of: *of, ..within })),
         Kind::SequenceOf(of) | Kind::SetOf(of) => member(text, *of, within, refusal),
-        Kind::Sequence(fields, _) => component(text, schema, fields, within, refusal),
+        Kind::Sequence(fields, _) => component(text, schema, fields, true, within, refusal),
+        Kind::Set(fields, _) => component(text, schema, fields, false, within, refusal),
         _ => Ok(None),
     }
 }

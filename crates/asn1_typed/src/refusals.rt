@@ -23,6 +23,8 @@ fn reason_words(reason: Reason) -> &'static str
         Reason::Contents => "the contents octets have no value of the type",
         Reason::Bounds => "the number or the size is out of bounds",
         Reason::MissingField => "a component is missing",
+        Reason::Order => "the elements of a set do not ascend by their tags",
+        Reason::Repeated => "a component stands there more than once",
         Reason::Default => "the default is no value of its type",
         Reason::TrailingOctets => "octets follow where none may",
     }
