@@ -9,13 +9,13 @@ ghost use Rattle.asn1_rs_choices.specs.TaggedStructs.{ChecksTagged, TakesTagged,
 ghost use Rattle.asn1_rs_choices.specs.TaggedStructs.{tagged_checks, tagged_exact, tagged_lawful, tagged_quiet};
 ghost use Rattle.asn1_rs_ldap.specs.declared.operation.Operation.TheVariants as operations;
 
+use crate::search::SearchRequest;
 use asn1_rs::{
     Any, ApplicationImplicit, ArmNumbers, CheckDerConstraints, ChoiceKind, ChoiceReader, DynTagged,
     Error, FromAny, HasKind, HasReader, LawfulChoice, LawfulType, Never, Null, OfArms, Or,
     ReadsChoiceByBer, ReadsFieldsByBer, Tag, ToldByNumber, UsesArm, choice_of_element,
 };
 use asn1_rs_choices::{OrTaken, TakenArm};
-use crate::search::SearchRequest;
 use std::alloc::Global;
 
 /// An operation of a client that searches.

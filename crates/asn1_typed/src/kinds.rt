@@ -4,10 +4,10 @@ ghost use Rattle.asn1_words.specs.Words.{integer_text};
 ghost use Rattle.asn1_typed.specs.Kinds.{bound_text, bounds_text, end_text, has_parts, inner_text, kind_word};
 ghost use Rattle.asn1_typed.specs.Kinds.{labels_in, name_in, named_text, part_names_text, text_word, time_word, type_text};
 
-use asn1_words::words::{push_long, push_str};
 use asn1_schema::build::Schema;
 use asn1_schema::names::{PartName, TypeNames};
 use asn1_schema::schema::{Kind, TextKind, TimeKind};
+use asn1_words::words::{push_long, push_str};
 use std::alloc::AllocError;
 
 /// The kind of a type is told by so many types that it leads to.

@@ -9,7 +9,6 @@ use crate::kinds::{MOST_DEPTH, push_type};
 use crate::places::{push_mistake, push_note};
 use crate::source::Source;
 use crate::tags::push_tags;
-use asn1_words::words::push_str;
 use asn1_engine::{Finding, RunError};
 use asn1_module::mistake::{Mistake, ModuleError};
 use asn1_module::modules::{ModuleType, read_modules};
@@ -17,6 +16,7 @@ use asn1_module::syntax::Note;
 use asn1_schema::build::Schema;
 use asn1_schema::sound::why_unsound;
 use asn1_schema::unsound::Unsound;
+use asn1_words::words::push_str;
 use std::alloc::{AllocError, Global};
 use std::io::Write;
 

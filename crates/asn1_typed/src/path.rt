@@ -1,11 +1,11 @@
 //! The names of the parts that lead to an octet.
 
-use asn1_words::words::{push_number, push_str};
 use asn1_headers::header::reading::header_by_ber;
 use asn1_headers::length::Length;
 use asn1_schema::build::Schema;
 use asn1_schema::refusal::{Reason, Refusal};
 use asn1_schema::schema::{Field, Kind, Node, Tags};
+use asn1_words::words::{push_number, push_str};
 use std::alloc::AllocError;
 
 /// So many parts lead to an octet at most.

@@ -3,9 +3,9 @@ ghost use Rattle.std.specs.Prelude.{◌≡◌, ◌++◌, List, ℕ, OnOk};
 ghost use Rattle.asn1_typed.specs.Places.{IsMistakeLine, left_out_text, note_text, place_text, position_text};
 
 use crate::source::Source;
-use asn1_words::words::{push_number, push_str};
 use asn1_module::mistake::{Mistake, Place, position};
 use asn1_module::syntax::{LeftOut, Note};
+use asn1_words::words::{push_number, push_str};
 use std::alloc::{AllocError, Global};
 
 /// Appends the name of a text, and the line and the column of an octet, both from 1.

@@ -4,9 +4,9 @@ ghost use Rattle.asn1_typed.specs.Refusals.{IsRefusalLine, reason_text};
 
 use crate::kinds::{MOST_DEPTH, push_named};
 use crate::path::push_path;
-use asn1_words::words::{push_number, push_str};
 use asn1_schema::build::Schema;
 use asn1_schema::refusal::{Reason, Refusal};
+use asn1_words::words::{push_number, push_str};
 use std::alloc::{AllocError, Global};
 
 /// A reason in words.

@@ -2,8 +2,8 @@
 ghost use Rattle.std.specs.Prelude.{◌≡◌, ◌++◌, OnOk};
 ghost use Rattle.asn1_typed.specs.Tags.{class_text, listed_text, tag_text, tags_text};
 
-use asn1_words::words::{push_number, push_str};
 use asn1_schema::schema::{Tags, TypeTag};
+use asn1_words::words::{push_number, push_str};
 use std::alloc::AllocError;
 
 /// The word of a class.
