@@ -9,4 +9,6 @@ mod Told
 mod Gained
 mod Utf8Texts
 mod Utf8Values
+mod Enclosed
+mod Boundaries
 mod OneLine

@@ -8,6 +8,7 @@ pub mod error;
 pub mod heads;
 pub mod identifiers;
 mod inner;
+mod lines;
 pub mod objects;
 pub mod outcome;
 pub mod pem;
