@@ -1,6 +1,3 @@
 pub mod Endings
 pub mod Filters
 pub mod Searches
-pub mod Controls
-pub mod Messages
-pub mod Operations

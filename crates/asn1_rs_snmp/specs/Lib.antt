@@ -1,3 +1,2 @@
 -- What contracts cite.
 pub mod Messages
-pub mod Pdus

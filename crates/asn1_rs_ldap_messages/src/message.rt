@@ -4,10 +4,9 @@ ghost use Rattle.asn1_rs.specs.Callers.{ReadsByBer, WritesStrict};
 ghost use Rattle.asn1_rs.specs.Grammar.Item.{ber_words};
 ghost use Rattle.asn1_rs.specs.Structs.{MadeOf};
 ghost use Rattle.asn1_rs.specs.Whole.{IsWhole, TakesWhole};
-ghost use Rattle.asn1_rs_ldap.specs.Messages.{message_laws};
+ghost use Rattle.asn1_rs_ldap_messages.specs.Messages.{message_laws};
 
-use crate::control::Control;
-use crate::operation::Operation;
+use crate::{Control, Operation};
 use asn1_rs::{
     BerParser, BorrowedRow, Error, Fields, FieldsKind, FromBer, Grammar, HasKind, HasReader,
     LawfulStruct, ParseResult, ReadsFieldsByBer, ReadsRow, SerializeResult, StructReader,
