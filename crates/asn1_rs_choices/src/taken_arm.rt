@@ -25,7 +25,7 @@ use std::marker::PhantomData;
 /// A type that an element converts to by BER, with the laws that an arm has.
 ///
 /// Both functions are calls of the library. Of a struct under an implicit tag the laws are those of
-/// `specs/TaggedStructs.antt`. `crates/asn1_rs_ldap_messages` has one, a search under its tag. `M` is a type of the
+/// `specs/TaggedStructs.antt`. `crates/asn1_rs_ldap` has one, a search under its tag. `M` is a type of the
 /// author's crate, and says whose arm it is. An impl of another crate's trait must name such a type.
 pub trait TakenArm<'a, M>: Sized {
     /// What it is read from.

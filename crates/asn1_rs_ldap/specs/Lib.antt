@@ -1,3 +1,6 @@
 pub mod Endings
 pub mod Filters
 pub mod Searches
+pub mod Controls
+pub mod Messages
+pub mod Operations

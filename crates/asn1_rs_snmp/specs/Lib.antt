@@ -1,2 +1,3 @@
 -- What contracts cite.
 pub mod Messages
+pub mod Pdus

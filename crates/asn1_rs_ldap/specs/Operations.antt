@@ -17,9 +17,9 @@ use Rattle.asn1_rs_choices.specs.Within.{arms_within}
 use Rattle.asn1_rs_choices.specs.declared.taken_arm.OrTaken.{OrTaken}
 use Rattle.asn1_rs_ldap.specs.Searches.{search_laws}
 use Rattle.asn1_rs_ldap.specs.declared.search.SearchRequest.{SearchRequest}
-use Rattle.asn1_rs_ldap_messages.specs.declared.operation.OfOperations.{OfOperations}
-use Rattle.asn1_rs_ldap_messages.specs.declared.operation.Operation.{Operation}
-use Rattle.asn1_rs_ldap_messages.specs.declared.operation.Operation.TheVariants as operations
+use Rattle.asn1_rs_ldap.specs.declared.operation.OfOperations.{OfOperations}
+use Rattle.asn1_rs_ldap.specs.declared.operation.Operation.{Operation}
+use Rattle.asn1_rs_ldap.specs.declared.operation.Operation.TheVariants as operations
 
 -- a value in place of whose tag one of the application class stands
 abbrev pub Under : Type 0 → ℕ → Type 0

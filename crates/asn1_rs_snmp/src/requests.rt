@@ -6,8 +6,8 @@ ghost use Rattle.asn1_rs.specs.Choices.{has_a_tag, has_a_class};
 ghost use Rattle.asn1_rs.specs.Structs.{is_one_of};
 ghost use Rattle.asn1_rs.specs.Choices.Data.{ChecksOf, numbers_of_choice, choice_numbers};
 ghost use Rattle.asn1_rs_choices.specs.Parts.Data.{arm_of_choice};
-ghost use Rattle.asn1_rs_snmp_messages.specs.Pdus.{in_request_arms, request_laws};
-ghost use Rattle.asn1_rs_snmp_messages.specs.declared.requests.RequestPdus.TheVariants as requests;
+ghost use Rattle.asn1_rs_snmp.specs.Pdus.{in_request_arms, request_laws};
+ghost use Rattle.asn1_rs_snmp.specs.declared.requests.RequestPdus.TheVariants as requests;
 
 use crate::pdu::{BulkPdu, Pdu};
 use asn1_rs::{

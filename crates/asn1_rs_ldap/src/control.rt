@@ -1,6 +1,6 @@
 //! Controls, which extend an operation (RFC 4511, 4.1.11).
 ghost use Rattle.asn1_rs.specs.Structs.{MadeOf};
-ghost use Rattle.asn1_rs_ldap_messages.specs.Controls.{control_laws};
+ghost use Rattle.asn1_rs_ldap.specs.Controls.{control_laws};
 
 use asn1_rs::{
     BerParser, BorrowedRow, DefaultFalse, Defaulted, Error, Fields, FieldsKind, HasKind, HasReader,

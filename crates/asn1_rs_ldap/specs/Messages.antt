@@ -3,9 +3,9 @@ use Rattle.std.specs.Prelude.{refl}
 use Rattle.asn1_rs.specs.Choices.Data.{choice_type}
 use Rattle.asn1_rs.specs.Structs.Data.{LawfulStructOf, end_row, field_of, optional_of, struct_of, struct_type, then_row}
 use Rattle.asn1_rs.specs.Structs.Types.{implicit_type, list_type, unsigned_type}
-use Rattle.asn1_rs_ldap_messages.specs.Controls.{control_laws}
-use Rattle.asn1_rs_ldap_messages.specs.Operations.{operation_laws}
-use Rattle.asn1_rs_ldap_messages.specs.declared.message.Message.{Message}
+use Rattle.asn1_rs_ldap.specs.Controls.{control_laws}
+use Rattle.asn1_rs_ldap.specs.Operations.{operation_laws}
+use Rattle.asn1_rs_ldap.specs.declared.message.Message.{Message}
 
 unfoldable pub message_laws : LawfulStructOf Message
 message_laws = struct_of (λ x. (x.id, (x.operation, (x.controls, tt))))

@@ -4,9 +4,10 @@ ghost use Rattle.asn1_rs.specs.Callers.{ReadsByBer, WritesStrict};
 ghost use Rattle.asn1_rs.specs.Grammar.Item.{ber_words};
 ghost use Rattle.asn1_rs.specs.Structs.{MadeOf};
 ghost use Rattle.asn1_rs.specs.Whole.{IsWhole, TakesWhole};
-ghost use Rattle.asn1_rs_ldap_messages.specs.Messages.{message_laws};
+ghost use Rattle.asn1_rs_ldap.specs.Messages.{message_laws};
 
-use crate::{Control, Operation};
+use crate::control::Control;
+use crate::operation::Operation;
 use asn1_rs::{
     BerParser, BorrowedRow, Error, Fields, FieldsKind, FromBer, Grammar, HasKind, HasReader,
     LawfulStruct, ParseResult, ReadsFieldsByBer, ReadsRow, SerializeResult, StructReader,

@@ -3,19 +3,19 @@ ghost use Rattle.std.specs.Prelude.{◌≡◌};
 ghost use Rattle.asn1_rs.specs.Any.{parts_of};
 ghost use Rattle.asn1_rs.specs.Structs.{is_one_of};
 ghost use Rattle.asn1_rs.specs.Choices.Data.{choice_numbers, choice_type, numbers_of_choice};
-ghost use Rattle.asn1_rs_ldap_messages.specs.Operations.{in_operation_arms, operation_laws};
+ghost use Rattle.asn1_rs_ldap.specs.Operations.{in_operation_arms, operation_laws};
 ghost use Rattle.asn1_rs_ldap.specs.Searches.{search_laws};
 ghost use Rattle.asn1_rs_choices.specs.TaggedStructs.{ChecksTagged, TakesTagged, tagged_struct};
 ghost use Rattle.asn1_rs_choices.specs.TaggedStructs.{tagged_checks, tagged_exact, tagged_lawful, tagged_quiet};
-ghost use Rattle.asn1_rs_ldap_messages.specs.declared.operation.Operation.TheVariants as operations;
+ghost use Rattle.asn1_rs_ldap.specs.declared.operation.Operation.TheVariants as operations;
 
+use crate::search::SearchRequest;
 use asn1_rs::{
     Any, ApplicationImplicit, ArmNumbers, CheckDerConstraints, ChoiceKind, ChoiceReader, DynTagged,
     Error, FromAny, HasKind, HasReader, LawfulChoice, LawfulType, Never, Null, OfArms, Or,
     ReadsChoiceByBer, ReadsFieldsByBer, Tag, ToldByNumber, UsesArm, choice_of_element,
 };
 use asn1_rs_choices::{OrTaken, TakenArm};
-use asn1_rs_ldap::SearchRequest;
 use std::alloc::Global;
 
 /// An operation of a client that searches.

@@ -5,8 +5,8 @@ ghost use Rattle.asn1_rs.specs.Any.{parts_of};
 ghost use Rattle.asn1_rs.specs.Choices.{has_a_tag, has_a_class};
 ghost use Rattle.asn1_rs.specs.Structs.{is_one_of};
 ghost use Rattle.asn1_rs.specs.Choices.Data.{ChecksOf, choice_type, numbers_of_choice, choice_numbers};
-ghost use Rattle.asn1_rs_snmp_messages.specs.Pdus.{in_pdus_arms, pdus_laws};
-ghost use Rattle.asn1_rs_snmp_messages.specs.declared.pdus.Pdus.TheVariants as pdus;
+ghost use Rattle.asn1_rs_snmp.specs.Pdus.{in_pdus_arms, pdus_laws};
+ghost use Rattle.asn1_rs_snmp.specs.declared.pdus.Pdus.TheVariants as pdus;
 
 use crate::notices::NoticePdus;
 use crate::requests::RequestPdus;

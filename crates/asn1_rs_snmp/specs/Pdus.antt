@@ -13,14 +13,14 @@ use Rattle.asn1_rs_choices.specs.Parts.Data.{choice_before}
 use Rattle.asn1_rs_choices.specs.declared.arms.OrChoice.{OrChoice}
 use Rattle.asn1_rs_choices.specs.declared.arms.OrChoice.TheVariants as part
 use Rattle.asn1_rs_snmp.specs.Messages.{var_bind_laws}
-use Rattle.asn1_rs_snmp_messages.specs.declared.notices.NoticePdus.{NoticePdus}
-use Rattle.asn1_rs_snmp_messages.specs.declared.notices.NoticePdus.TheVariants as notices
-use Rattle.asn1_rs_snmp_messages.specs.declared.pdu.BulkPdu.{BulkPdu}
-use Rattle.asn1_rs_snmp_messages.specs.declared.pdu.Pdu.{Pdu}
-use Rattle.asn1_rs_snmp_messages.specs.declared.pdus.Pdus.{Pdus}
-use Rattle.asn1_rs_snmp_messages.specs.declared.pdus.Pdus.TheVariants as pdus
-use Rattle.asn1_rs_snmp_messages.specs.declared.requests.RequestPdus.{RequestPdus}
-use Rattle.asn1_rs_snmp_messages.specs.declared.requests.RequestPdus.TheVariants as requests
+use Rattle.asn1_rs_snmp.specs.declared.notices.NoticePdus.{NoticePdus}
+use Rattle.asn1_rs_snmp.specs.declared.notices.NoticePdus.TheVariants as notices
+use Rattle.asn1_rs_snmp.specs.declared.pdu.BulkPdu.{BulkPdu}
+use Rattle.asn1_rs_snmp.specs.declared.pdu.Pdu.{Pdu}
+use Rattle.asn1_rs_snmp.specs.declared.pdus.Pdus.{Pdus}
+use Rattle.asn1_rs_snmp.specs.declared.pdus.Pdus.TheVariants as pdus
+use Rattle.asn1_rs_snmp.specs.declared.requests.RequestPdus.{RequestPdus}
+use Rattle.asn1_rs_snmp.specs.declared.requests.RequestPdus.TheVariants as requests
 
 -- The laws of what they hold. They go by these names. The proofs of the three functions of each open its name.
 

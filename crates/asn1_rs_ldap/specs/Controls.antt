@@ -6,7 +6,7 @@ use Rattle.asn1_rs.specs.OctetString.{octet_string_leaf}
 use Rattle.asn1_rs.specs.Structs.Data.{LawfulStructOf, end_row, field_of, optional_of, struct_of, then_row}
 use Rattle.asn1_rs.specs.Structs.DefaultTypes.{default_bool, defaulted_of}
 use Rattle.asn1_rs.specs.Structs.Types.{leaf_type}
-use Rattle.asn1_rs_ldap_messages.specs.declared.control.Control.{Control}
+use Rattle.asn1_rs_ldap.specs.declared.control.Control.{Control}
 
 unfoldable pub control_laws : LawfulStructOf Control
 control_laws = struct_of (λ x. (x.control_type, (x.criticality, (x.value, tt))))
