@@ -6,6 +6,7 @@ mod elements;
 pub mod error;
 pub mod heads;
 mod inner;
+mod lines;
 pub mod objects;
 pub mod outcome;
 pub mod pem;
