@@ -8,6 +8,7 @@ pub mod Lines
 pub mod Messages
 pub mod Objects
 pub mod Pem
+pub mod Plain
 pub mod Texts
 pub mod Trees
 pub mod Values

@@ -10,6 +10,7 @@ mod lines;
 pub mod objects;
 pub mod outcome;
 pub mod pem;
+pub mod plain;
 pub mod standing;
 pub mod tags;
 pub mod texts;
