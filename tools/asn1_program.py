@@ -172,7 +172,7 @@ def standing(octets, at):
 
 
 def changed(octets, chance):
-    """Returns the octets with a few changes."""
+    """Returns the octets with a few changes, or as they are where none would be left."""
     made = bytearray(octets)
     for _ in range(chance.choice((1, 1, 2, 3))):
         place = chance.randrange(len(made))
@@ -191,7 +191,7 @@ def changed(octets, chance):
             made[place] = chance.randrange(256)
         if not made:
             break
-    return bytes(made)
+    return bytes(made) or octets
 
 
 def run(program, *words, **how):
