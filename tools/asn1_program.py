@@ -172,7 +172,7 @@ def standing(octets, at):
 
 
 def changed(octets, chance):
-    """Returns the octets with a few changes."""
+    """Returns the octets with a few changes, or as they are where none would be left."""
     made = bytearray(octets)
     for _ in range(chance.choice((1, 1, 2, 3))):
         place = chance.randrange(len(made))
@@ -191,7 +191,7 @@ def changed(octets, chance):
             made[place] = chance.randrange(256)
         if not made:
             break
-    return bytes(made)
+    return bytes(made) or octets
 
 
 def run(program, *words, **how):
@@ -236,7 +236,7 @@ def odd_files(program, room):
     pem = (FOLDER / "data/certificate.pem").read_bytes()
     first = b"\n".join(pem.splitlines()[:2]) + b"\n"
     rows = [
-        ("empty", "dump", b"", 0, 0), ("empty", "check", b"", 1, 1), ("one octet", "dump", b"0", 1, 1),
+        ("empty", "dump", b"", 1, 0), ("empty", "check", b"", 1, 0), ("one octet", "dump", b"0", 1, 1),
         ("nested", "dump", nested(50000), 0, 50000), ("nested, cut", "dump", nested(50000)[:70001], 1, 35001),
         ("NUL octets", "dump", b"\0" * 4, 0, 2), ("text around", "check", b"a\n" + pem + b"b\n", 0, 1),
         ("two blocks", "check", pem + pem, 0, 2), ("CR LF", "check", pem.replace(b"\n", b"\r\n"), 0, 1),
@@ -253,6 +253,27 @@ def odd_files(program, room):
         path.write_bytes(octets)
         ended = run(program, *task.split(), path)
         yield f"{task} {name}", (ended.returncode, ended.stdout.count(b"\n")), (status, lines)
+
+
+def refusals(program, room):
+    """Yields what standard error says of files that are refused, with the name of each, and nothing of others."""
+    pem = (FOLDER / "data/certificate.pem").read_bytes()
+    begin, rest = pem.split(b"\n", 1)
+    rows = [
+        ("empty", b"", "the file is empty"), ("no BER", b"\x30\x80", ""), ("a certificate", pem, ""),
+        ("encrypted", b"\n".join([begin, b"Proc-Type: 4,ENCRYPTED", b"DEK-Info: AES-256-CBC,00", b"", rest]),
+         "line 1: the block is encrypted"),
+        ("fields", b"\n".join([begin, b"Proc-Type: 4,MIC-CLEAR", b"", rest]), ""),
+    ]
+    hint = "this seems to be text, not BER; --from hex and --from base64 read text"
+    texts = (("JSON", '{"a": "\u00e9"}\n'), ("XML", "<a/>\r\n"), ("words", "no BER"))
+    rows += [(name, text.encode(), hint) for name, text in texts]
+    for name, octets, words in rows:
+        path = room / "refused"
+        path.write_bytes(octets)
+        for task in ("dump", "check"):
+            line = f"asn1: {path}: {words}\n" if words else ""
+            yield f"{task}, {name}, standard error", run(program, task, path).stderr.decode(), line
 
 
 def failures(program, room):
@@ -321,8 +342,8 @@ def main():
     with tempfile.TemporaryDirectory(prefix="asn1-") as name:
         room, wrong, count = pathlib.Path(name), 0, 0
         program = sys.argv[1]
-        for rows in (trees(program), odd_files(program, room), failures(program, room), modules(program, room),
-                     verdicts(program, room, 5000)):
+        for rows in (trees(program), odd_files(program, room), refusals(program, room), failures(program, room),
+                     modules(program, room), verdicts(program, room, 5000)):
             for what, seen, expected in rows:
                 count += 1
                 if seen != expected:

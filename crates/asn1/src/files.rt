@@ -43,6 +43,8 @@ pub enum FileError {
     Unreadable(io::Error),
     /// It has more octets than may be read.
     TooLong(u64),
+    /// It has none.
+    Empty,
     /// Its text is no PEM.
     Pem(PemError),
     /// It has no block of PEM.
@@ -60,6 +62,7 @@ impl fmt::Display for FileError {
         match self {
             FileError::Unreadable(error) => write!(f, "{error}"),
             FileError::TooLong(most) => write!(f, "more than {most} octets"),
+            FileError::Empty => write!(f, "the file is empty"),
             FileError::Pem(error) => write!(f, "{error}"),
             FileError::NoBlock => write!(f, "no block of PEM"),
             FileError::NoHexadecimal => write!(f, "no hexadecimal"),
@@ -179,13 +182,16 @@ fn of_pem(alloc: Global, path: &str, text: &[u8]) -> Result<Vec<Document>, FileE
     Ok(found)
 }
 
-/// The documents of a file.
+/// The documents of a file. An empty file is refused in each form.
 pub fn documents(
     alloc: Global,
     path: &str,
     form: Form,
     octets: Vec<u8>,
 ) -> Result<Vec<Document>, FileError> {
+    if octets.is_empty() {
+        return Err(FileError::Empty);
+    }
     let octets = match form {
         Form::Pem => return of_pem(alloc, path, octets.as_slice()),
         Form::Told if is_pem(alloc, octets.as_slice())? => {

@@ -4,6 +4,7 @@ use crate::files::{Document, FileError, documents, read, told};
 use crate::modules::answer_types;
 use crate::words::{Call, Task, asked, command, modules, most};
 use asn1_engine::outcome::{FAILED, Outcome};
+use asn1_engine::plain::seems_text;
 use asn1_engine::{Finding, RunError, check, check_all, dump, dump_at};
 use std::alloc::Global;
 use std::io::{BufWriter, Write};
@@ -36,6 +37,14 @@ fn answer<W: Write>(
     }
 }
 
+/// Tells on standard error where a document that is refused seems to be a text.
+fn hint<R: Eprint>(rt: &R, document: &Document) {
+    if seems_text(document.octets.as_slice()) {
+        let name = document.name.as_str();
+        let _ = eprintln!(rt; "asn1: {name}: this seems to be text, not BER; --from hex and --from base64 read text");
+    }
+}
+
 /// The documents of a file.
 fn open<R: Files + Input + AllocGlobal>(
     rt: &R,
@@ -61,7 +70,11 @@ fn answer_file<R: Files + Input + Eprint + AllocGlobal, W: Write>(
     let titled = titled || found.len() > 1;
     let mut finding = Finding::Holds;
     for document in &found {
-        finding = finding.and(answer(rt.alloc(), call.task, document, titled, out)?);
+        let of_document = answer(rt.alloc(), call.task, document, titled, out)?;
+        if of_document == Finding::Refused {
+            hint(rt, document);
+        }
+        finding = finding.and(of_document);
     }
     Ok(Outcome::Found(finding))
 }

@@ -7,6 +7,8 @@ pub mod Inner
 pub mod Lines
 pub mod Messages
 pub mod Objects
+pub mod Pem
+pub mod Plain
 pub mod Texts
 pub mod Trees
 pub mod Values

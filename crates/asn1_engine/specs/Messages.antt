@@ -14,4 +14,5 @@ abbrev pub pem_error_text : PemError → List ℕ
 pem_error_text (pem_errors.NoEnd line) = codes "line " ++ decimal line ++ codes ": the block has no line of END"
 pem_error_text (pem_errors.WrongEnd line) = codes "line " ++ decimal line ++ codes ": END with another label"
 pem_error_text (pem_errors.NoBase64 line) = codes "line " ++ decimal line ++ codes ": the block is no base64"
+pem_error_text (pem_errors.Encrypted line) = codes "line " ++ decimal line ++ codes ": the block is encrypted"
 pem_error_text pem_errors.OutOfMemory = codes "out of memory"
