@@ -286,13 +286,13 @@ pub field_gone : (types : Types) (at : Option ℕ) (place next : ℕ) (before af
     (old : List Token) → front_of here ≡ fronts.Gone → behind ≡ drop 1 here → after ≡ before ++ frames.Fields at next ∷ [] →
     ((vs : Values) → tokens_of_fields types at next vs ≡ tokens_of_fields types at (suc place) vs) →
     Goes types (frames.Fields at place ∷ reverse before) here (reverse after) behind old old
-field_gone types at place next before after here behind old f cut more same = λ shown w.
+field_gone types at place next before after here behind old f cut pushed same = λ shown w.
     let m = gone_of_front w.0 w.1 here w.2 w.4 f in
     let is : shown ≡ tokens_of_fields types at next (values_of m.0) ++ end_object ∷ w.3 =
     w.5 ∙ ap (λ (ks : KeptRow). tokens_of_fields types at place (values_of ks) ++ end_object ∷ w.3) m.1
     ∙ ap (λ (ts : List Token). ts ++ end_object ∷ w.3) (sym (same (values_of m.0))) in (
       shown,
-      one_more types before after (frames.Fields at next) behind shown more (m.0, w.1, w.2, w.3, cut ∙ m.2, is, w.6),
+      one_more types before after (frames.Fields at next) behind shown pushed (m.0, w.1, w.2, w.3, cut ∙ m.2, is, w.6),
       refl,
     )
 
@@ -307,16 +307,16 @@ pub item_goes : (types : Types) (of : Option ℕ) (are_unknown : Bool) (before a
     (old : List Token) → front_of here ≡ fronts.Value o →
     after ≡ (before ++ frames.Items of are_unknown ∷ []) ++ frames.Value of ∷ [] →
     Goes types (frames.Items of are_unknown ∷ reverse before) here (reverse after) here old old
-item_goes types of are_unknown before after here o old f more = λ shown w.
+item_goes types of are_unknown before after here o old f pushed = λ shown w.
     let m = more_of_front w.0 w.1 here w.2 o w.4 f in
     let inner = tokens_of types of (value_of m.0) in
     let items = tokens_of_items types of (values_of m.1) in
-    let last : List Token = items ++ items_end are_unknown ++ w.3 in
+    let last : List Token = items ++ (items_end are_unknown ++ w.3) in
     let is : shown ≡ inner ++ last =
-    w.5 ∙ ap (λ (ks : KeptRow). tokens_of_items types of (values_of ks) ++ items_end are_unknown ++ w.3) m.2
+    w.5 ∙ ap (λ (ks : KeptRow). tokens_of_items types of (values_of ks) ++ (items_end are_unknown ++ w.3)) m.2
     ∙ append_assoc inner items (items_end are_unknown ++ w.3) in (
       shown,
-      two_more types before after (frames.Items of are_unknown) (frames.Value of) here shown more
+      two_more types before after (frames.Items of are_unknown) (frames.Value of) here shown pushed
           (m.0, row_marks m.1 w.1 w.2, last, m.3, is, (m.1, w.1, w.2, w.3, refl, refl, w.6)),
       refl,
     )
@@ -327,7 +327,7 @@ pub items_end_goes : (types : Types) (of : Option ℕ) (are_unknown : Bool) (fs 
 items_end_goes types of are_unknown fs here behind old new f cut written = λ shown w.
     let m = end_of_front w.0 w.1 here w.2 w.4 f in
     let is : shown ≡ items_end are_unknown ++ w.3 =
-    w.5 ∙ ap (λ (ks : KeptRow). tokens_of_items types of (values_of ks) ++ items_end are_unknown ++ w.3) m.0 in (
+    w.5 ∙ ap (λ (ks : KeptRow). tokens_of_items types of (values_of ks) ++ (items_end are_unknown ++ w.3)) m.0 in (
       w.3,
       subst (λ (ms : List Mark). Await types fs ms w.3) (sym (cut ∙ m.1)) w.6,
       behind_tokens old new (items_end are_unknown) w.3 shown is written,
@@ -337,12 +337,12 @@ pub item_gone : (types : Types) (of : Option ℕ) (are_unknown : Bool) (before a
     (old : List Token) → front_of here ≡ fronts.Gone → behind ≡ drop 1 here →
     after ≡ before ++ frames.Items of are_unknown ∷ [] →
     Goes types (frames.Items of are_unknown ∷ reverse before) here (reverse after) behind old old
-item_gone types of are_unknown before after here behind old f cut more = λ shown w.
+item_gone types of are_unknown before after here behind old f cut pushed = λ shown w.
     let m = gone_of_front w.0 w.1 here w.2 w.4 f in
-    let is : shown ≡ tokens_of_items types of (values_of m.0) ++ items_end are_unknown ++ w.3 =
-    w.5 ∙ ap (λ (ks : KeptRow). tokens_of_items types of (values_of ks) ++ items_end are_unknown ++ w.3) m.1 in (
+    let is : shown ≡ tokens_of_items types of (values_of m.0) ++ (items_end are_unknown ++ w.3) =
+    w.5 ∙ ap (λ (ks : KeptRow). tokens_of_items types of (values_of ks) ++ (items_end are_unknown ++ w.3)) m.1 in (
       shown,
-      one_more types before after (frames.Items of are_unknown) behind shown more (m.0, w.1, w.2, w.3, cut ∙ m.2, is, w.6),
+      one_more types before after (frames.Items of are_unknown) behind shown pushed (m.0, w.1, w.2, w.3, cut ∙ m.2, is, w.6),
       refl,
     )
 

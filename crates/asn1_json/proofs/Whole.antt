@@ -1,5 +1,5 @@
 -- From the tape of a value to its end.
-use Rattle.std.proofs.Common.{◌≡◌, ◌∙◌, ap, sym, refl, subst, ℕ, ◌+◌, ◌*◌, ◌<◌, List, [], ◌∷◌, ◌++◌, append-nil, length, reverse, Option, arith}
+use Rattle.std.proofs.Common.{◌≡◌, ◌∙◌, ap, sym, refl, subst, ℕ, ◌+◌, ◌*◌, ◌<◌, List, [], ◌∷◌, ◌++◌, append-nil, length, reverse, Option, Some, None, MatchOption, arith}
 use Rattle.std.proofs.lemmas.List.{length-map}
 use Rattle.json.specs.Token.{Token}
 use Rattle.asn1_schema.specs.declared.tape.Item.{Item}
@@ -37,6 +37,17 @@ fewer_steps types before popped after f xs ys now new is step =
     let same = ap (λ (x : List Frame). steps_left x (length xs)) (popped_first before popped f is) in
     let fewer = step.fewer in
     omega (arith, a, b, same, fewer)
+
+-- what is taken from none
+pub none_left : {X : Type 0} (r : Option X) (n m : ℕ) → ((x : X) → r ≡ Some x → ⊥) →
+    MatchOption r ((n ≡ 0) × (m ≡ 0)) (λ _. m + 1 ≡ n) → n ≡ 0
+none_left None n m not told = told.0
+none_left (Some x) n m not told = absurd (not x refl)
+
+-- no frame is left
+pub no_frames : (fs : List Frame) → length fs ≡ 0 → reverse fs ≡ []
+no_frames [] none = refl
+no_frames (f ∷ fs) none = absurd (omega (arith, none))
 
 module _ (types : Types) (of : Option ℕ) (gs : List Frame) (here behind : List Mark) (old new : List Token)
     (goes : Goes types (frames.Value of ∷ []) here gs behind old new) (kept : Kept) (at : here ≡ tape_of kept) where

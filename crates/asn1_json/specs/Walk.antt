@@ -45,7 +45,7 @@ Await types (frames.Value of ∷ fs) here shown = (kept : Kept) × (behind : Lis
     (here ≡ tape_of kept ++ behind) × (shown ≡ tokens_of types of (value_of kept) ++ others) × Await types fs behind others
 Await types (frames.Items of are_unknown ∷ fs) here shown =
     (ks : KeptRow) × (n : ℕ) × (behind : List Mark) × (others : List Token) × (here ≡ row_marks ks n behind) ×
-    (shown ≡ tokens_of_items types of (values_of ks) ++ items_end are_unknown ++ others) × Await types fs behind others
+    (shown ≡ tokens_of_items types of (values_of ks) ++ (items_end are_unknown ++ others)) × Await types fs behind others
 Await types (frames.Fields at place ∷ fs) here shown =
     (ks : KeptRow) × (n : ℕ) × (behind : List Mark) × (others : List Token) × (here ≡ row_marks ks n behind) ×
     (shown ≡ tokens_of_fields types at place (values_of ks) ++ end_object ∷ others) × Await types fs behind others

@@ -6,12 +6,12 @@ ghost use Rattle.asn1_json.specs.Shown.{layout, of_schema};
 ghost use Rattle.asn1_json.specs.declared.error.JsonError.TheVariants as errors;
 
 use crate::error::JsonError;
-use crate::out::TokenWriter;
+use crate::out::{OneLine, TokenWriter};
 use crate::types::Types;
 use crate::walk::{Frame, Left, step};
 use asn1_schema::build::Schema;
 use asn1_schema::tape::Item;
-use json::{Pretty, Writer};
+use json::Pretty;
 use std::alloc::Global;
 
 /// Writes the value of a tape, by the type at a place of a table.
@@ -61,7 +61,7 @@ pub fn json_of(
         write_value(alloc, types, of, tape, &mut out)?;
         return Ok(out.into_inner());
     }
-    let mut out = Writer::new(Vec::new(alloc));
+    let mut out = OneLine::new(alloc);
     write_value(alloc, types, of, tape, &mut out)?;
     Ok(out.into_inner())
 }
