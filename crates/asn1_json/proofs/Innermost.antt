@@ -1,5 +1,5 @@
 -- The types within tags and bounds.
-use Rattle.std.proofs.Common.{◌≡◌, ◌∙◌, ap, ℕ, suc, ◌+◌, ◌-◌, ◌<◌, List, Option, Some, None, option_and_then, arith}
+use Rattle.std.proofs.Common.{◌≡◌, ◌∙◌, ap, ℕ, suc, ◌+◌, ◌-◌, ◌<◌, List, Option, Some, option_and_then, arith}
 use Rattle.asn1_schema.specs.declared.schema.Node.{Node}
 use Rattle.asn1_json.specs.Types.{inner_type, kind_at, innermost, or_next}
 

@@ -1,6 +1,6 @@
 -- What the pieces of a leaf join to.
-use Rattle.std.proofs.Common.{◌≡◌, ◌∙◌, ap, sym, refl, ℕ, suc, Bool, true, false, List, [], ◌∷◌, ◌++◌, map, length, arith}
-use Rattle.asn1_schema.specs.Values.{Leaf, Value, leaf, bits, octets, text, time, joined}
+use Rattle.std.proofs.Common.{◌≡◌, ◌∙◌, ap, refl, ℕ, suc, Bool, true, false, List, [], ◌∷◌, ◌++◌, map, length, arith}
+use Rattle.asn1_schema.specs.Values.{Leaf, leaf, bits, octets, text, time, joined}
 use Rattle.asn1_schema.specs.declared.tape.Item.{Item}
 use Rattle.asn1_schema.specs.Tape.{Mark, marks, leaf_mark, pieces_mark, pieces_end_mark, Sort, of_octets, of_text, of_time, string}
 use Rattle.asn1_schema.specs.Tape.{Kept, kept_leaf, kept_string, kept_bits, kept_row, kept_chosen, value_of, tape_of}

@@ -1,12 +1,12 @@
 -- What a step leaves of what frames await.
-use Rattle.std.proofs.Common.{◌≡◌, ◌∙◌, ap, sym, refl, subst, ℕ, zero, suc, ◌+◌, ◌*◌, ◌<◌, ◌≤◌, Bool, true, false, List, [], ◌∷◌, ◌++◌, append_assoc, append-nil}
-use Rattle.std.proofs.Common.{length, length-append, reverse, drop, Option, Some, None, nat_lt, codes, arith}
+use Rattle.std.proofs.Common.{◌≡◌, ◌∙◌, ap, sym, refl, subst, ℕ, zero, suc, ◌≤◌, Bool, true, false, List, [], ◌∷◌, ◌++◌, append_assoc}
+use Rattle.std.proofs.Common.{length, reverse, drop, Option, Some, None, nat_lt, codes, arith}
 use Rattle.std.proofs.Common.{◌⊎◌, inl, inr}
 use Rattle.std.proofs.lemmas.Bool.{le-ltb}
 use Rattle.std.proofs.lemmas.List.{reverse-append}
 use Rattle.json.specs.Token.{Token, begin_object, end_object, begin_array, end_array, key}
-use Rattle.asn1_schema.specs.Values.{Leaf, leaf, Value, Values, row, chosen, none, absent, more, bits, joined}
-use Rattle.asn1_schema.specs.Tape.{Mark, leaf_mark, begin_mark, end_mark, absent_mark, arm_mark, arm_end_mark, pieces_mark, string}
+use Rattle.asn1_schema.specs.Values.{Leaf, leaf, Value, Values, row, none, absent, more, bits, joined}
+use Rattle.asn1_schema.specs.Tape.{Mark, end_mark, arm_end_mark, string}
 use Rattle.asn1_schema.specs.Tape.{Kept, KeptRow, kept_leaf, kept_string, kept_bits, kept_row, kept_chosen, kept_none, kept_absent, kept_more}
 use Rattle.asn1_schema.specs.Tape.{value_of, values_of, tape_of, tapes_of}
 use Rattle.asn1_json.specs.declared.walk.Frame.{Frame}
@@ -19,7 +19,7 @@ use Rattle.asn1_json.specs.Leaves.{leaf_tokens}
 use Rattle.asn1_json.specs.Types.{labels_at, resolved}
 use Rattle.asn1_json.specs.Tokens.{Types, tokens_of, tokens_of_items, tokens_of_fields, row_tokens, type_of_arm, name_of_arm, type_of_members}
 use Rattle.asn1_json.specs.Tokens.{type_of_field, type_of_unknown, name_of_field, count_of_fields}
-use Rattle.asn1_json.specs.Walk.{front_of, front_of_mark, items_end, row_marks, Await, Goes, AwaitNot, Steps, weight, steps_left, OpensRow, BeginsField}
+use Rattle.asn1_json.specs.Walk.{front_of, items_end, row_marks, Await, Goes, AwaitNot, weight, OpensRow, BeginsField}
 
 -- Which values have which fronts.
 
@@ -346,14 +346,6 @@ item_gone types of are_unknown before after here behind old f cut pushed = λ sh
       refl,
     )
 
-pub arm_end_goes : (types : Types) (fs : List Frame) (here behind : List Mark) (old new : List Token) →
-    behind ≡ drop 1 here → new ≡ old ++ end_object ∷ [] → Goes types (frames.ArmEnd ∷ fs) here fs behind old new
-arm_end_goes types fs here behind old new cut written = λ shown w. (
-  w.2,
-  subst (λ (ms : List Mark). Await types fs ms w.2) (sym (cut ∙ ap (λ (ms : List Mark). drop 1 ms) w.3)) w.5,
-  behind_tokens old new (end_object ∷ []) w.2 shown w.4 written,
-)
-
 -- What is not awaited.
 
 pub no_value : (types : Types) (of : Option ℕ) (fs : List Frame) (here : List Mark) →
@@ -361,10 +353,6 @@ pub no_value : (types : Types) (of : Option ℕ) (fs : List Frame) (here : List 
 no_value types of fs here not = λ shown w.
     let v = value_front w.0 w.1 in
     not v.0 (ap front_of w.3 ∙ v.1)
-
-pub no_arm_end : (types : Types) (fs : List Frame) (here : List Mark) → (front_of here ≡ fronts.ArmEnd → ⊥) →
-    AwaitNot types (frames.ArmEnd ∷ fs) here
-no_arm_end types fs here not = λ shown w. not (ap front_of w.3)
 
 pub no_items : (types : Types) (of : Option ℕ) (are_unknown : Bool) (fs : List Frame) (here : List Mark) →
     (front_of here ≡ fronts.ArmEnd) ⊎ (front_of here ≡ fronts.Nothing) → AwaitNot types (frames.Items of are_unknown ∷ fs) here

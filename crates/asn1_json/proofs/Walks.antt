@@ -1,5 +1,5 @@
 -- Steps, and how many are left.
-use Rattle.std.proofs.Common.{◌≡◌, ◌∙◌, ap, sym, refl, subst, Bool, true, false, ℕ, zero, suc, ◌+◌, ◌*◌, ◌<◌, ◌≤◌, List, [], ◌∷◌, ◌++◌, length, reverse, drop, Option, Some, None, nat_lt, codes, arith}
+use Rattle.std.proofs.Common.{◌≡◌, ◌∙◌, ap, sym, refl, subst, Bool, true, false, ℕ, suc, ◌<◌, ◌≤◌, List, [], ◌∷◌, ◌++◌, length, reverse, drop, Option, nat_lt, arith}
 use Rattle.std.proofs.lemmas.List.{length-map, drop-map}
 use Rattle.json.specs.Token.{Token, begin_object, end_object, key}
 use Rattle.asn1_schema.specs.Values.{Leaf, Values, leaf}
@@ -13,9 +13,9 @@ use Rattle.asn1_json.specs.declared.front.Opening.{Opening}
 use Rattle.asn1_json.specs.declared.front.Opening.TheVariants as openings
 use Rattle.asn1_json.specs.Leaves.{leaf_tokens}
 use Rattle.asn1_json.specs.Types.{labels_at, resolved}
-use Rattle.asn1_json.specs.Tokens.{Types, tokens_of, tokens_of_fields, type_of_arm, name_of_arm, type_of_members, count_of_fields}
-use Rattle.asn1_json.specs.Walk.{front_of, items_end, Await, Goes, AwaitNot, Steps, weight, steps_left, OpensRow, BeginsField}
-use Rattle.asn1_json.proofs.Steps.{light, two_last, leaf_goes, row_goes, arm_goes, field_goes, fields_end, field_gone, item_goes, items_end_goes, item_gone, arm_end_goes, no_value, no_arm_end}
+use Rattle.asn1_json.specs.Tokens.{Types, tokens_of_fields, type_of_arm, name_of_arm, type_of_members, count_of_fields}
+use Rattle.asn1_json.specs.Walk.{front_of, items_end, AwaitNot, Steps, weight, steps_left, OpensRow, BeginsField}
+use Rattle.asn1_json.proofs.Steps.{light, two_last, leaf_goes, row_goes, arm_goes, field_goes, fields_end, field_gone, item_goes, items_end_goes, item_gone, no_value}
 
 -- a mark is taken
 taken : (here behind : List Mark) (f : Front) → front_of here ≡ f → (f ≡ fronts.Nothing → ⊥) → behind ≡ drop 1 here →
@@ -40,10 +40,6 @@ fewer_frames f fs before after g h here is one two =
 pub not_value : (types : Types) (of : Option ℕ) (fs : List Frame) (here : List Mark) (f : Front) → front_of here ≡ f →
     ((o : Opening) → f ≡ fronts.Value o → ⊥) → AwaitNot types (frames.Value of ∷ fs) here
 not_value types of fs here f is not = no_value types of fs here (λ o e. not o (sym is ∙ e))
-
-pub not_arm_end : (types : Types) (fs : List Frame) (here : List Mark) (f : Front) → front_of here ≡ f →
-    (f ≡ fronts.ArmEnd → ⊥) → AwaitNot types (frames.ArmEnd ∷ fs) here
-not_arm_end types fs here f is not = no_arm_end types fs here (λ e. not (sym is ∙ e))
 
 -- items and their marks
 pub marks_behind : (xs ys : List Item) → ys ≡ drop 1 xs → marks ys ≡ drop 1 (marks xs)
@@ -78,13 +74,6 @@ module _ (types : Types) (before : List Frame) (here behind : List Mark) (old ne
   items_end_step of are_unknown f cut written = record {
     goes = items_end_goes types of are_unknown (reverse before) here behind old new f cut written;
     fewer = fewer_behind (frames.Items of are_unknown) (reverse before) (reverse before) here behind (taken here behind fronts.Close f (λ e. cc) cut) (omega arith);
-  }
-
-  pub arm_end_step : (fs : List Frame) → front_of here ≡ fronts.ArmEnd → behind ≡ drop 1 here → new ≡ old ++ end_object ∷ [] →
-      Steps types (frames.ArmEnd ∷ fs) here fs behind old new
-  arm_end_step fs f cut written = record {
-    goes = arm_end_goes types fs here behind old new cut written;
-    fewer = fewer_behind frames.ArmEnd fs fs here behind (taken here behind fronts.ArmEnd f (λ e. cc) cut) (omega arith);
   }
 
 module _ (types : Types) (before after : List Frame) (here behind : List Mark) (old new : List Token) where
@@ -147,6 +136,6 @@ module _ (types : Types) (before after : List Frame) (here : List Mark) (o : Ope
       Steps types (frames.Fields at place ∷ reverse before) here (reverse after) here old new
   field_step at place new f begins =
       let b = begun (nat_lt place (count_of_fields types at)) at place new begins in record {
-    goes = field_goes types at place before after here o old new f begins;
-    fewer = fewer_frames (frames.Fields at place) (reverse before) before after b.0 (frames.Value b.1) here b.2 refl refl;
-  }
+        goes = field_goes types at place before after here o old new f begins;
+        fewer = fewer_frames (frames.Fields at place) (reverse before) before after b.0 (frames.Value b.1) here b.2 refl refl;
+      }

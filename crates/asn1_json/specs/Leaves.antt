@@ -1,5 +1,5 @@
 -- Values without parts as tokens of JSON.
-use Rattle.std.specs.Prelude.{ℕ, zero, suc, ◌+◌, ◌*◌, ◌/◌, ◌%◌, ◌^◌, ℤ, pos, Bool, List, [], ◌∷◌, ◌++◌, length, drop, codes}
+use Rattle.std.specs.Prelude.{ℕ, zero, suc, ◌+◌, ◌*◌, ◌/◌, ◌%◌, ◌^◌, ℤ, Bool, List, [], ◌∷◌, length, drop, codes}
 use Rattle.std.specs.Prelude.{if◌then◌else◌, encode_utf8_all}
 use Rattle.std.specs.Ordering.{int_eq}
 use Rattle.hex.specs.Hex.{encode_lower}

@@ -1,5 +1,5 @@
 -- What is to come of a value that is half shown.
-use Rattle.std.specs.Prelude.{ℕ, zero, suc, ◌+◌, ◌*◌, Bool, List, [], ◌∷◌, ◌++◌, ◌≡◌, length, Option, Some, None, true, false, codes, ◌<◌, if◌then◌else◌}
+use Rattle.std.specs.Prelude.{ℕ, suc, ◌+◌, ◌*◌, Bool, List, [], ◌∷◌, ◌++◌, ◌≡◌, length, Option, Some, None, true, false, codes, ◌<◌, if◌then◌else◌}
 use Rattle.json.specs.Token.{Token, begin_object, end_object, begin_array, end_array, key}
 use Rattle.asn1_schema.specs.Tape.{Mark, leaf_mark, begin_mark, end_mark, absent_mark, arm_mark, arm_end_mark, pieces_mark, pieces_end_mark}
 use Rattle.asn1_schema.specs.Tape.{Kept, KeptRow, value_of, values_of, tape_of, tapes_of}

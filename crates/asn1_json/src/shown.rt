@@ -22,7 +22,8 @@ pub fn write_value<W: TokenWriter>(
     tape: &[Item<'_>],
     out: &mut W,
 ) -> Result<(), JsonError>
-    ensures tokens { (kept : Kept) → marks tape.now ≡ tape_of kept → OnOk result (W.written out.new ≡
+    ensures tokens { (kept : Kept) → marks tape.now ≡ tape_of kept →
+        OnOk result (W.written out.new ≡
         W.written out.old ++ tokens_of (seen types.entry) (Some of) (value_of kept)) }
     ensures none { IsErrOf result errors.NoValue →
         (kept : Kept) → marks tape.now ≡ tape_of kept → ⊥ }

@@ -137,8 +137,9 @@ fn put_front_leaf<'t, 'a, W: TokenWriter>(
 ) -> Result<&'t [Item<'a>], JsonError>
     ensures behind { (kept : Kept) (rest : List Mark) → marks items.now ≡ tape_of kept ++ rest →
         IfOk result (λ behind. marks behind.now ≡ rest) }
-    ensures tokens { (kept : Kept) (rest : List Mark) (l : Leaf) → marks items.now ≡ tape_of kept ++ rest →
-        value_of kept ≡ leaf l → OnOk result (W.written out.new ≡
+    ensures tokens { (kept : Kept) (rest : List Mark) (l : Leaf) →
+        marks items.now ≡ tape_of kept ++ rest → value_of kept ≡ leaf l →
+        OnOk result (W.written out.new ≡
         W.written out.old ++ leaf_tokens (labels_at (seen types.entry).names at) l) }
     ensures shorter { IfOk result (λ behind. length behind.now < length items.now) }
     ensures none { IsErrOf result errors.NoValue → (kept : Kept) (rest : List Mark) →
@@ -161,10 +162,13 @@ fn begin_value<'t, 'a, W: TokenWriter>(
     frames: &mut Vec<Frame>,
     out: &mut W,
 ) -> Result<&'t [Item<'a>], JsonError>
-    ensures ok { IfOk result (λ behind. Steps (seen types.entry) (awaited.Value of ∷ reverse frames.old.items)
-        (marks items.now) (reverse frames.new.items) (marks behind.now) (W.written out.old) (W.written out.new)) }
+    ensures ok { IfOk result (λ behind. Steps (seen types.entry)
+        (awaited.Value of ∷ reverse frames.old.items)
+        (marks items.now) (reverse frames.new.items) (marks behind.now) (W.written out.old)
+        (W.written out.new)) }
     ensures none { IsErrOf result errors.NoValue →
-        AwaitNot (seen types.entry) (awaited.Value of ∷ reverse frames.old.items) (marks items.now) }
+        AwaitNot (seen types.entry) (awaited.Value of ∷ reverse frames.old.items)
+        (marks items.now) }
 {
     let at = types.resolved(of);
     match front_of(items) {
@@ -233,10 +237,13 @@ fn step_fields<'t, 'a, W: TokenWriter>(
     frames: &mut Vec<Frame>,
     out: &mut W,
 ) -> Result<&'t [Item<'a>], JsonError>
-    ensures ok { IfOk result (λ behind. Steps (seen types.entry) (awaited.Fields at place ∷ reverse frames.old.items)
-        (marks items.now) (reverse frames.new.items) (marks behind.now) (W.written out.old) (W.written out.new)) }
+    ensures ok { IfOk result (λ behind. Steps (seen types.entry)
+        (awaited.Fields at place ∷ reverse frames.old.items)
+        (marks items.now) (reverse frames.new.items) (marks behind.now) (W.written out.old)
+        (W.written out.new)) }
     ensures none { IsErrOf result errors.NoValue →
-        AwaitNot (seen types.entry) (awaited.Fields at place ∷ reverse frames.old.items) (marks items.now) }
+        AwaitNot (seen types.entry) (awaited.Fields at place ∷ reverse frames.old.items)
+        (marks items.now) }
 {
     match front_of(items) {
         Front::Value(_) => {
@@ -275,8 +282,10 @@ fn step_items<'t, 'a, W: TokenWriter>(
     frames: &mut Vec<Frame>,
     out: &mut W,
 ) -> Result<&'t [Item<'a>], JsonError>
-    ensures ok { (types : SpecTypes) → IfOk result (λ behind. Steps types (awaited.Items of are_unknown ∷ reverse frames.old.items)
-        (marks items.now) (reverse frames.new.items) (marks behind.now) (W.written out.old) (W.written out.new)) }
+    ensures ok { (types : SpecTypes) → IfOk result (λ behind. Steps types
+        (awaited.Items of are_unknown ∷ reverse frames.old.items)
+        (marks items.now) (reverse frames.new.items) (marks behind.now) (W.written out.old)
+        (W.written out.new)) }
     ensures none { (types : SpecTypes) → IsErrOf result errors.NoValue →
         AwaitNot types (awaited.Items of are_unknown ∷ reverse frames.old.items) (marks items.now) }
 {
@@ -332,7 +341,8 @@ fn step_frame<'t, 'a, W: TokenWriter>(
     out: &mut W,
 ) -> Result<&'t [Item<'a>], JsonError>
     ensures ok { IfOk result (λ behind. Steps (seen types.entry) (frame ∷ reverse frames.old.items)
-        (marks items.now) (reverse frames.new.items) (marks behind.now) (W.written out.old) (W.written out.new)) }
+        (marks items.now) (reverse frames.new.items) (marks behind.now) (W.written out.old)
+        (W.written out.new)) }
     ensures none { IsErrOf result errors.NoValue →
         AwaitNot (seen types.entry) (frame ∷ reverse frames.old.items) (marks items.now) }
 {
@@ -364,7 +374,8 @@ pub fn step<'t, 'a, W: TokenWriter>(
         (marks left.entry.items.now) (reverse frames.new.items) (marks behind.items.now)
         (W.written out.old) (W.written out.new)) }
     ensures none { IsErrOf result errors.NoValue →
-        AwaitNot (seen types.entry) (frame ∷ reverse frames.old.items) (marks left.entry.items.now) }
+        AwaitNot (seen types.entry) (frame ∷ reverse frames.old.items)
+        (marks left.entry.items.now) }
 {
     let items = step_frame(alloc, types, frame, left.items, frames, out)?;
     Ok(Left { items })

@@ -1,4 +1,4 @@
-use Rattle.std.proofs.Common.{◌≡◌, ◌∙◌, ap, sym, subst, ℕ, ◌+◌, ◌*◌, ◌<◌, get_or, false, arith}
+use Rattle.std.proofs.Common.{◌∙◌, ap, sym, subst, ℕ, ◌+◌, ◌*◌, ◌<◌, get_or, false, arith}
 use Rattle.asn1_json.specs.Leaves.{number_of_bits}
 use Rattle.asn1_json.proofs.OctetsOfBits.{few_bits, bit_few, next_bit}
 use Rattle.asn1_json.proofs.bits.first_octet.Goals as goal

@@ -1,4 +1,4 @@
-use Rattle.std.proofs.Common.{◌≡◌, ◌∙◌, ap, refl, List, [], ◌∷◌, length, reverse, Some, arith}
+use Rattle.std.proofs.Common.{◌≡◌, ap, refl, List, [], ◌∷◌, length, reverse, Some, arith}
 use Rattle.std.proofs.lemmas.Bool.Decides.{nat_tests}
 use Rattle.std.proofs.lemmas.List.{length-map}
 use Rattle.asn1_schema.specs.Tape.{Mark, mark, marks}

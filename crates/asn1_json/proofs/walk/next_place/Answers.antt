@@ -1,4 +1,4 @@
-use Rattle.std.proofs.Common.{◌≡◌, ◌∙◌, sym, false, nat_lt}
+use Rattle.std.proofs.Common.{◌∙◌, sym}
 use Rattle.std.proofs.lemmas.Bool.{ltb-false}
 use Rattle.asn1_json.specs.Tokens.{seen, count_of_fields}
 use Rattle.asn1_json.proofs.Steps.{beyond}
