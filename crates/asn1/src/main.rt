@@ -1,13 +1,15 @@
 //! What is in a file, and whether it is strict DER.
 #![tactic(auto)]
 
+mod decoding;
 mod files;
 mod modules;
 mod run;
 mod words;
 
+use std::io::IsTerminal;
 use std::process::ExitCode;
 
 fn main(rt: HostRuntime) -> ExitCode {
-    run::status(&rt)
+    run::status(&rt, rt.stdout().is_terminal())
 }

@@ -1,8 +1,9 @@
 //! A call of the program.
 
+use crate::decoding::answer_decode;
 use crate::files::{Document, FileError, documents, read, told};
 use crate::modules::answer_types;
-use crate::words::{Call, Task, asked, command, modules, most};
+use crate::words::{Call, Task, asked, asked_to_decode, command, modules, most};
 use asn1_engine::outcome::{FAILED, Outcome};
 use asn1_engine::{Finding, RunError, check, check_all, dump, dump_at};
 use std::alloc::Global;
@@ -82,7 +83,10 @@ fn answer_files<R: Files + Input + Print + Eprint + AllocGlobal>(
 }
 
 /// Runs a call.
-fn run<R: Files + Env + Input + Print + Eprint + AllocGlobal>(rt: &R) -> anyhow::Result<u8> {
+fn run<R: Files + Env + Input + Print + Eprint + AllocGlobal>(
+    rt: &R,
+    on_terminal: bool,
+) -> anyhow::Result<u8> {
     let alloc = rt.alloc();
     let words: Vec<String> = env::args(rt)?.collect(alloc)?;
     let matches = match command(alloc)?.try_get_matches_from(words.as_slice()) {
@@ -101,12 +105,19 @@ fn run<R: Files + Env + Input + Print + Eprint + AllocGlobal>(rt: &R) -> anyhow:
     let Some(paths) = inner.get_strs("file") else {
         return Ok(FAILED);
     };
+    if name == "decode" {
+        let call = asked_to_decode(inner, on_terminal);
+        return Ok(answer_decode(rt, &call, paths)?.status());
+    }
     Ok(answer_files(rt, asked(name, inner), paths)?.status())
 }
 
 /// The exit status of a call: 0, 1 for octets that are refused, or 2. A failure has one line on standard error.
-pub fn status<R: Files + Env + Input + Print + Eprint + AllocGlobal>(rt: &R) -> ExitCode {
-    match run(rt) {
+pub fn status<R: Files + Env + Input + Print + Eprint + AllocGlobal>(
+    rt: &R,
+    on_terminal: bool,
+) -> ExitCode {
+    match run(rt, on_terminal) {
         Ok(status) => ExitCode::from(status),
         Err(error) => {
             let _ = eprintln!(rt; "asn1: {error}");
