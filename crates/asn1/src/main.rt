@@ -1,10 +1,10 @@
 //! What is in a file, and whether it is strict DER.
 #![tactic(auto)]
 
-mod decoding;
 mod files;
 mod modules;
 mod run;
+mod typed;
 mod words;
 
 use std::io::IsTerminal;

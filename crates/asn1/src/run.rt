@@ -1,9 +1,9 @@
 //! A call of the program.
 
-use crate::decoding::answer_decode;
 use crate::files::{Document, FileError, documents, read, told};
 use crate::modules::answer_types;
-use crate::words::{Call, Task, asked, asked_to_decode, command, modules, most};
+use crate::typed::answer_typed;
+use crate::words::{Call, Task, asked, asked_by_type, command, modules, most};
 use asn1_engine::outcome::{FAILED, Outcome};
 use asn1_engine::{Finding, RunError, check, check_all, dump, dump_at};
 use std::alloc::Global;
@@ -105,9 +105,8 @@ fn run<R: Files + Env + Input + Print + Eprint + AllocGlobal>(
     let Some(paths) = inner.get_strs("file") else {
         return Ok(FAILED);
     };
-    if name == "decode" {
-        let call = asked_to_decode(inner, on_terminal);
-        return Ok(answer_decode(rt, &call, paths)?.status());
+    if let Some(call) = asked_by_type(name, inner, on_terminal) {
+        return Ok(answer_typed(rt, &call, paths)?.status());
     }
     Ok(answer_files(rt, asked(name, inner), paths)?.status())
 }

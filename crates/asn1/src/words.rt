@@ -3,6 +3,7 @@
 use crate::files::Form;
 use asn1_engine::Options;
 use asn1_schema::coding::Coding;
+use asn1_typed::Decoding;
 use asn1_typed::reading::MOST_DEPTH;
 use clap::{Arg, ArgAction, ArgMatches, Command, value_parser};
 use std::alloc::{AllocError, Global};
@@ -33,19 +34,26 @@ pub struct Call {
     pub most: u64,
 }
 
-/// What `decode` asks for.
+/// What is asked of each file by a type.
 #[derive(Debug, Clone, Copy)]
-pub struct DecodeCall<'m> {
+pub enum TypedTask {
+    /// Its value as JSON.
+    Decode(Decoding),
+    /// The values that it has in a row, each as JSON in a line.
+    DecodeLines(Decoding),
+    /// Whether it is the strict encoding of a value.
+    Check,
+}
+
+/// What is asked by the types of modules.
+#[derive(Debug, Clone, Copy)]
+pub struct TypedCall<'m> {
     /// The files of modules; without one, those that are built in.
     pub modules: &'m [&'m str],
     /// The name of the type; without one, the label of a block of PEM says it.
     pub name: Option<&'m str>,
-    /// The rules that octets are read by.
-    pub coding: Coding,
-    /// Whether JSON has a line for each member.
-    pub pretty: bool,
-    /// Whether a file is of values in a row, each of which has a line.
-    pub lines: bool,
+    /// The task.
+    pub task: TypedTask,
     /// How the files hold octets.
     pub form: Form,
     /// As many octets of a file are read at most.
@@ -139,6 +147,11 @@ fn check_command<'a>(alloc: Global) -> Result<Command<'a>, AllocError> {
             alloc,
             "all",
             "Goes on behind the first departure, where that can be",
+        ))?
+        .arg(module_files(alloc))?
+        .arg(type_name(
+            alloc,
+            "Tells also whether they are of this type, as Certificate or PKCS-1.RSAPrivateKey",
         ))?;
     with_files(alloc, command)
 }
@@ -154,13 +167,21 @@ fn module_files<'a>(alloc: Global) -> Arg<'a> {
         .action(ArgAction::Append)
 }
 
-/// The words of `decode`.
-fn decode_command<'a>(alloc: Global) -> Result<Command<'a>, AllocError> {
-    let name = Arg::new(alloc, "type")
+/// The option that names a type.
+fn type_name<'a>(alloc: Global, help: &'a str) -> Arg<'a> {
+    Arg::new(alloc, "type")
         .long("type")
         .value_name("NAME")
-        .help("The type, as Certificate or PKCS-1.RSAPrivateKey; without it, a label of PEM says it")
-        .action(ArgAction::Set);
+        .help(help)
+        .action(ArgAction::Set)
+}
+
+/// The words of `decode`.
+fn decode_command<'a>(alloc: Global) -> Result<Command<'a>, AllocError> {
+    let name = type_name(
+        alloc,
+        "The type, as Certificate or PKCS-1.RSAPrivateKey; without it, a label of PEM says it",
+    );
     let rules = Arg::new(alloc, "rules")
         .long("rules")
         .value_name("RULES")
@@ -240,21 +261,47 @@ fn form(matches: &ArgMatches<'_>) -> Form {
     }
 }
 
-/// What the words of `decode` ask for. On a terminal JSON has a line for each member, but where a value has a line.
-pub fn asked_to_decode<'m>(matches: &'m ArgMatches<'_>, on_terminal: bool) -> DecodeCall<'m> {
+/// What `decode` asks of each file. On a terminal JSON has a line for each member, but where each value has a line.
+fn decode_task(matches: &ArgMatches<'_>, on_terminal: bool) -> TypedTask {
     let lines = matches.get_flag("lines");
-    DecodeCall {
-        modules: modules(matches),
-        name: matches.get_str("type"),
+    let by = Decoding {
         coding: match matches.get_str("rules") {
             Some("ber") => Coding::Ber(MOST_DEPTH),
             _ => Coding::Der,
         },
         pretty: !lines && (on_terminal || matches.get_flag("pretty")),
-        lines,
+    };
+    if lines {
+        TypedTask::DecodeLines(by)
+    } else {
+        TypedTask::Decode(by)
+    }
+}
+
+/// What the words ask for by the types of modules, if they do.
+pub fn asked_by_type<'m>(
+    name: &str,
+    matches: &'m ArgMatches<'_>,
+    on_terminal: bool,
+) -> Option<TypedCall<'m>> {
+    if name != "decode" && name != "check" {
+        return None;
+    }
+    let call = TypedCall {
+        modules: modules(matches),
+        name: matches.get_str("type"),
+        task: if name == "check" {
+            TypedTask::Check
+        } else {
+            decode_task(matches, on_terminal)
+        },
         form: form(matches),
         most: most(matches),
+    };
+    if name == "check" && call.name.is_none() && call.modules.is_empty() {
+        return None;
     }
+    Some(call)
 }
 
 /// What the words ask for.

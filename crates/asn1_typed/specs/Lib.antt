@@ -5,4 +5,5 @@ pub mod Places
 pub mod Readings
 pub mod Refusals
 pub mod Sought
+pub mod Strict
 pub mod Tags

@@ -13,6 +13,7 @@ pub mod refusals;
 pub mod sought;
 pub mod source;
 pub mod standards;
+pub mod strict;
 pub mod tables;
 pub mod tags;
 
@@ -21,4 +22,5 @@ pub use input::Input;
 pub use listing::types;
 pub use sought::{TypeName, type_named};
 pub use source::Source;
+pub use strict::check_typed;
 pub use tables::{TypeTable, sound_types};

@@ -123,13 +123,14 @@ fn push_part(
     push_number(text, part as u64)
 }
 
-/// Whether a refusal stands in an element that ends there. A refusal of contents octets may stand at its end.
+/// Whether an octet stands in an element that ends there. That of a refusal of contents octets may stand at its end.
 fn stands_before(refusal: &Refusal, end: usize) -> bool {
     match refusal.reason {
-        Reason::Tag | Reason::Bounds | Reason::Element | Reason::Depth | Reason::TrailingOctets => {
-            refusal.octet < end
+        Reason::Contents | Reason::Form | Reason::MissingField => refusal.octet <= end,
+        Reason::MissingType | Reason::Order | Reason::Repeated | Reason::Default => {
+            refusal.octet <= end
         }
-        _ => refusal.octet <= end,
+        _ => refusal.octet < end,
     }
 }
 

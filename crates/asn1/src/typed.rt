@@ -1,16 +1,17 @@
-//! Files, decoded by a type of modules.
+//! Files, by a type of modules.
 
 use crate::files::{Document, documents, read, told};
 use crate::modules::{sources, texts};
-use crate::words::DecodeCall;
+use crate::words::{TypedCall, TypedTask};
 use asn1_engine::outcome::Outcome;
 use asn1_engine::{Finding, RunError};
 use asn1_typed::labels::type_of_label;
 use asn1_typed::standards::standards;
 use asn1_typed::{
-    Decoded, Decoding, Input as Octets, Source, TypeName, TypeTable, decode, decode_lines,
-    sound_types, type_named,
+    Decoded, Decoding, Input as Octets, Source, TypeName, TypeTable, check_typed, decode,
+    decode_lines, sound_types, type_named,
 };
+use std::alloc::Global;
 use std::io::{BufWriter, Write};
 use std::rt::Files;
 use std::{io, str};
@@ -25,7 +26,7 @@ fn tell<R: Eprint>(rt: &R, lines: &[u8]) {
 /// The place of the type of a document: that of the call, or the one that its label says.
 fn type_of<R: Eprint + AllocGlobal>(
     rt: &R,
-    call: &DecodeCall<'_>,
+    call: &TypedCall<'_>,
     table: &TypeTable<'_>,
     document: &Document,
 ) -> Result<Option<usize>, RunError> {
@@ -47,50 +48,87 @@ fn type_of<R: Eprint + AllocGlobal>(
     Ok(found)
 }
 
-/// Writes what a document says as JSON. A refusal is told on standard error.
+/// Writes values as JSON. A refusal is told on standard error.
+fn answer_decode<R: Eprint + AllocGlobal, W: Write>(
+    rt: &R,
+    table: &TypeTable<'_>,
+    of: usize,
+    by: Decoding,
+    octets: Octets<'_>,
+    out: &mut W,
+) -> Result<Finding, RunError> {
+    match decode(rt.alloc(), &table.schema, of, by, octets)? {
+        Decoded::Value(text) => {
+            out.write_all(&text)?;
+            Ok(Finding::Holds)
+        }
+        Decoded::Refused(line) => {
+            tell(rt, &line);
+            Ok(Finding::Refused)
+        }
+    }
+}
+
+/// Writes values in a row as JSON, each in a line. A refusal is told on standard error.
+fn answer_lines<R: Eprint + AllocGlobal, W: Write>(
+    rt: &R,
+    table: &TypeTable<'_>,
+    of: usize,
+    by: Decoding,
+    octets: Octets<'_>,
+    out: &mut W,
+) -> Result<Finding, RunError> {
+    match decode_lines(rt.alloc(), &table.schema, of, by, octets, out)? {
+        None => Ok(Finding::Holds),
+        Some(line) => {
+            tell(rt, &line);
+            Ok(Finding::Refused)
+        }
+    }
+}
+
+/// Writes whether octets are the strict encoding of a value.
+fn answer_check<W: Write>(
+    alloc: Global,
+    table: &TypeTable<'_>,
+    of: usize,
+    octets: Octets<'_>,
+    out: &mut W,
+) -> Result<Finding, RunError> {
+    let mut text = Vec::new(alloc);
+    let finding = check_typed(alloc, &mut text, &table.schema, of, octets)?;
+    out.write_all(&text)?;
+    Ok(finding)
+}
+
+/// Does the task with a document.
 fn answer<R: Eprint + AllocGlobal, W: Write>(
     rt: &R,
-    call: &DecodeCall<'_>,
+    call: &TypedCall<'_>,
     table: &TypeTable<'_>,
     document: &Document,
     out: &mut W,
 ) -> Result<Outcome, RunError> {
-    let alloc = rt.alloc();
     let Some(of) = type_of(rt, call, table, document)? else {
         return Ok(Outcome::Unreadable);
-    };
-    let by = Decoding {
-        coding: call.coding,
-        pretty: call.pretty,
     };
     let octets = Octets {
         name: document.name.as_str(),
         offset: 0,
         octets: document.octets.as_slice(),
     };
-    if call.lines {
-        let Some(line) = decode_lines(alloc, &table.schema, of, by, octets, out)? else {
-            return Ok(Outcome::Found(Finding::Holds));
-        };
-        tell(rt, &line);
-        return Ok(Outcome::Found(Finding::Refused));
-    }
-    match decode(alloc, &table.schema, of, by, octets)? {
-        Decoded::Value(text) => {
-            out.write_all(&text)?;
-            Ok(Outcome::Found(Finding::Holds))
-        }
-        Decoded::Refused(line) => {
-            tell(rt, &line);
-            Ok(Outcome::Found(Finding::Refused))
-        }
-    }
+    let finding = match call.task {
+        TypedTask::Decode(by) => answer_decode(rt, table, of, by, octets, out)?,
+        TypedTask::DecodeLines(by) => answer_lines(rt, table, of, by, octets, out)?,
+        TypedTask::Check => answer_check(rt.alloc(), table, of, octets, out)?,
+    };
+    Ok(Outcome::Found(finding))
 }
 
-/// Writes what the documents of a file say. A file that has none is told on standard error.
+/// Does the task with each document of a file. A file that has none is told on standard error.
 fn answer_file<R: Files + Input + Eprint + AllocGlobal, W: Write>(
     rt: &R,
-    call: &DecodeCall<'_>,
+    call: &TypedCall<'_>,
     table: &TypeTable<'_>,
     path: &str,
     out: &mut W,
@@ -110,10 +148,10 @@ fn answer_file<R: Files + Input + Eprint + AllocGlobal, W: Write>(
     Ok(outcome)
 }
 
-/// Writes what files say, by the types of modules, which are told on standard error where they are not sound.
+/// Does the task with each file, by the types of modules. Why these are none is told on standard error.
 fn answer_files<R: Files + Input + Print + Eprint + AllocGlobal>(
     rt: &R,
-    call: &DecodeCall<'_>,
+    call: &TypedCall<'_>,
     sources: &[Source<'_>],
     paths: &[&str],
 ) -> Result<Outcome, RunError> {
@@ -132,10 +170,10 @@ fn answer_files<R: Files + Input + Print + Eprint + AllocGlobal>(
     Ok(outcome)
 }
 
-/// Writes what files say as JSON, by the types of modules that are named, or of those that are built in.
-pub fn answer_decode<R: Files + Input + Print + Eprint + AllocGlobal>(
+/// Does a task with files by the types of the modules that are named, or of those that are built in.
+pub fn answer_typed<R: Files + Input + Print + Eprint + AllocGlobal>(
     rt: &R,
-    call: &DecodeCall<'_>,
+    call: &TypedCall<'_>,
     paths: &[&str],
 ) -> Result<Outcome, RunError> {
     let alloc = rt.alloc();
