@@ -322,6 +322,7 @@ A ::= SEQUENCE { a BOOLEAN DEFAULT FALSE, b [0] IMPLICIT INTEGER OPTIONAL, c C, 
 C ::= CHOICE { n NULL, i INTEGER { one(1) }, e ENUMERATED { red, green(5) }, s SEQUENCE OF INTEGER (-9..9) }
 D ::= SET { bits BIT STRING { zero(0), one(1) }, octets OCTET STRING, id OBJECT IDENTIFIER, text UTF8String }
 E ::= SEQUENCE { time UTCTime, wide BMPString, any ANY, relative [1] IMPLICIT RELATIVE-OID }
+G ::= SET OF INTEGER
 END
 """
 # Types, values of them, what is asked besides, the status, the lines of output (X.697), and what is told.
@@ -346,6 +347,17 @@ VALUES = [
     ("F", "0500", (), 2, [], "asn1: FILE: no type F in the modules"),
     ("N.A", "0500", (), 2, [], "asn1: FILE: no type N.A in the modules"),
 ]
+# Types, octets, the status, and what is told of whether they are the strict encoding of a value.
+STRICT = [
+    ("A", "30020500", 0, "FILE: strict DER of A"),
+    ("A", "30090101ff800102020101", 0, "FILE: strict DER of A"),
+    ("A", "30090101008001020500", 1, "FILE: octet 0 (A): no element begins here, or it is cut"),
+    ("A", "30080101008001020500", 1, "FILE: octet 1: the strict encoding of the value differs here"),
+    ("D", "3119030206c004020aff06032a86480c0a6122c3a95c0af09f9880", 0, "FILE: strict DER of D"),
+    ("D", "3119030206c004020aff0c0a6122c3a95c0af09f988006032a8648", 1, "FILE: octet 22, id (D): the elements of a set do not ascend by their tags"),
+    ("C", "300302010a", 1, "FILE: octet 2, s[0] (INTEGER within -9..9): the number or the size is out of bounds"),
+    ("G", "3106020101020100", 1, "FILE: the value has no strict encoding: a SET OF does not ascend, or named bits end in zeros"),
+]
 
 
 def values(program, room):
@@ -357,6 +369,11 @@ def values(program, room):
         ended = run(program, "decode", "--from", "der", "--module", module, "--type", name, *asked, file)
         expected = (status, [it.encode() for it in lines], told.replace("FILE", str(file)).encode())
         yield f"decode, {name} of {octets}", (ended.returncode, ended.stdout.splitlines(), ended.stderr.strip()), expected
+    for name, octets, status, told in STRICT:
+        file.write_bytes(bytes.fromhex(octets))
+        ended = run(program, "check", "--from", "der", "--module", module, "--type", name, file)
+        expected = (status, told.replace("FILE", str(file)).encode())
+        yield f"check, {name} of {octets}", (ended.returncode, ended.stdout.strip()), expected
 
 
 def certificates(program):

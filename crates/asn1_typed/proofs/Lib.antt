@@ -1,2 +1,3 @@
 mod Appended
+mod Found
 mod NoValues

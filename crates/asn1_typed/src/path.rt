@@ -123,13 +123,11 @@ fn push_part(
     push_number(text, part as u64)
 }
 
-/// Whether an octet stands in an element that ends there. That of a refusal of contents octets may stand at its end.
+/// Whether an octet stands in an element that ends there. Contents octets that are refused, and a component that is not
+/// there, may stand at its end.
 fn stands_before(refusal: &Refusal, end: usize) -> bool {
     match refusal.reason {
-        Reason::Contents | Reason::Form | Reason::MissingField => refusal.octet <= end,
-        Reason::MissingType | Reason::Order | Reason::Repeated | Reason::Default => {
-            refusal.octet <= end
-        }
+        Reason::Contents | Reason::MissingField | Reason::Default => refusal.octet <= end,
         _ => refusal.octet < end,
     }
 }

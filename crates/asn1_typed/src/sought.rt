@@ -1,6 +1,7 @@
 //! Types by their names.
-ghost use Rattle.std.specs.Prelude.{◌≡◌};
-ghost use Rattle.asn1_typed.specs.Sought.{bears, sought};
+ghost use Rattle.std.specs.Prelude.{◌≡◌, ◌++◌, IfOk, OnOk};
+ghost use Rattle.asn1_typed.specs.Sought.{and_at, bearer_text, bearers_text, bears, missing_text, place_of};
+ghost use Rattle.asn1_typed.specs.Sought.{several_text, sought, sought_text, spelled};
 
 use asn1_module::modules::ModuleType;
 use asn1_words::words::push_str;
@@ -26,9 +27,23 @@ pub enum Sought {
     Several,
 }
 
+impl Sought {
+    /// One more type has the name.
+    fn and_at(self, of: usize) -> Sought
+        ensures { result ≡ and_at self of }
+    {
+        match self {
+            Sought::Missing => Sought::At(of),
+            _ => Sought::Several,
+        }
+    }
+}
+
 impl<'a> TypeName<'a> {
     /// The name that a text spells. What stands before a point is the module.
-    pub fn of(text: &'a str) -> TypeName<'a> {
+    pub fn of(text: &'a str) -> TypeName<'a>
+        ensures { spelled result ≡ text.entry.now }
+    {
         match text.split_once(".") {
             None => TypeName {
                 module: None,
@@ -60,40 +75,72 @@ impl<'a> TypeName<'a> {
     {
         let mut found = Sought::Missing;
         for named in types {
-            if self.is_of(named) {
-                found = match found {
-                    Sought::Missing => Sought::At(named.of),
-                    _ => Sought::Several,
-                };
+            if !self.is_of(named) {
+                continue;
             }
+            found = found.and_at(named.of);
         }
         found
     }
 
-    /// Appends a name.
-    pub fn push(&self, text: &mut Vec<u8>) -> Result<(), AllocError> {
+    /// Appends the name.
+    fn push(&self, text: &mut Vec<u8>) -> Result<(), AllocError>
+        ensures { OnOk result (text.new.items ≡ text.old.items ++ spelled self.now) }
+    {
         if let Some(module) = self.module {
             push_str(text, module)?;
             push_str(text, ".")?;
         }
         push_str(text, self.name)
     }
+
+    /// Appends the name of a type with its module, behind a space, where it has this name.
+    fn push_bearer(&self, text: &mut Vec<u8>, named: &ModuleType<'_>) -> Result<(), AllocError>
+        ensures { OnOk result (text.new.items ≡ text.old.items ++ bearer_text self.now named.now) }
+    {
+        if !self.is_of(named) {
+            return Ok(());
+        }
+        push_str(text, " ")?;
+        push_str(text, named.module)?;
+        push_str(text, ".")?;
+        push_str(text, named.name)
+    }
+
+    /// Appends the names of all types that have this name.
+    fn push_bearers(&self, text: &mut Vec<u8>, types: &[ModuleType<'_>]) -> Result<(), AllocError>
+        ensures { OnOk result (text.new.items ≡ text.old.items ++ bearers_text self.now types.now) }
+    {
+        for named in types {
+            self.push_bearer(text, named)?;
+        }
+        Ok(())
+    }
 }
 
-/// Appends the names of the types that have a name, with their modules, each behind a space.
-fn push_all(
+/// Appends that no type has a name.
+fn push_missing(text: &mut Vec<u8>, name: &TypeName<'_>) -> Result<(), AllocError>
+    ensures { OnOk result (text.new.items ≡ text.old.items ++ missing_text name.now) }
+{
+    push_str(text, "no type ")?;
+    name.push(text)?;
+    push_str(text, " in the modules\n")?;
+    Ok(())
+}
+
+/// Appends which types have a name.
+fn push_several(
     text: &mut Vec<u8>,
     types: &[ModuleType<'_>],
     name: &TypeName<'_>,
-) -> Result<(), AllocError> {
-    for named in types {
-        if name.is_of(named) {
-            push_str(text, " ")?;
-            push_str(text, named.module)?;
-            push_str(text, ".")?;
-            push_str(text, named.name)?;
-        }
-    }
+) -> Result<(), AllocError>
+    ensures { OnOk result (text.new.items ≡ text.old.items ++ several_text types.now name.now) }
+{
+    push_str(text, "more than one type ")?;
+    name.push(text)?;
+    push_str(text, ":")?;
+    name.push_bearers(text, types)?;
+    push_str(text, "\n")?;
     Ok(())
 }
 
@@ -103,21 +150,19 @@ pub fn type_named(
     text: &mut Vec<u8>,
     types: &[ModuleType<'_>],
     name: &TypeName<'_>,
-) -> Result<Option<usize>, AllocError> {
+) -> Result<Option<usize>, AllocError>
+    ensures found { IfOk result (λ found. found ≡ place_of (sought name.now types.now)) }
+    ensures tells { OnOk result (text.new.items ≡ text.old.items ++
+        sought_text types.now name.now (sought name.now types.now)) }
+{
     match name.sought(types) {
         Sought::At(of) => Ok(Some(of)),
         Sought::Missing => {
-            push_str(text, "no type ")?;
-            name.push(text)?;
-            push_str(text, " in the modules\n")?;
+            push_missing(text, name)?;
             Ok(None)
         }
         Sought::Several => {
-            push_str(text, "more than one type ")?;
-            name.push(text)?;
-            push_str(text, ":")?;
-            push_all(text, types, name)?;
-            push_str(text, "\n")?;
+            push_several(text, types, name)?;
             Ok(None)
         }
     }
