@@ -1,5 +1,6 @@
 -- What is told of octets by a type: the JSON of their value, or why they have none.
-use Rattle.std.specs.Prelude.{ℕ, ◌≡◌, Bool, List, [], ◌∷◌, ◌++◌, codes, flat_map, length, Option, Some, None, Vec, Global}
+use Rattle.std.specs.Prelude.{ℕ, ◌≡◌, Bool, List, [], ◌∷◌, ◌++◌, codes, flat_map, length, Option, Some, None, Vec}
+use Rattle.std.specs.Global.{Global}
 use Rattle.asn1_schema.specs.declared.build.Schema.{Schema}
 use Rattle.asn1_schema.specs.declared.refusal.Refusal.{Refusal}
 use Rattle.asn1_schema.specs.Reading.{IsWordOf}

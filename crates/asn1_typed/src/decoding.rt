@@ -1,6 +1,7 @@
 //! Octets as JSON, by a type of a table.
-ghost use Rattle.std.specs.Prelude.{ℕ, List, ◌≡◌, true, IfOk};
+ghost use Rattle.std.specs.Prelude.{ℕ, List, ◌≡◌, ◌≢◌, true, IfOk, IsErrOf};
 ghost use Rattle.std.specs.Io.KnownBytes.{Appends};
+ghost use Rattle.asn1_json.specs.declared.error.JsonError.TheVariants as errors;
 ghost use Rattle.asn1_schema.specs.Sound.{is_sound};
 ghost use Rattle.asn1_schema.specs.Tape.{Kept, marks, tape_of, value_of};
 ghost use Rattle.asn1_typed.specs.Decodings.{DecodesNext, DecodesRow, IsDecoded, value_text};
@@ -51,19 +52,23 @@ fn value_line(
     of: usize,
     tape: &[Item<'_>],
     pretty: bool,
-) -> Result<Vec<u8>, RunError>
-    ghost kept: { Kept }
-    requires { marks tape.now ≡ tape_of kept }
-    ensures { IfOk result (λ text. text.items ≡ value_text schema.now pretty of (value_of kept)) }
+) -> Result<Vec<u8>, JsonError>
+    ensures text { (kept : Kept) → marks tape.now ≡ tape_of kept → IfOk result (λ text. text.items ≡
+        value_text schema.now pretty of (value_of kept)) }
+    ensures none { IsErrOf result errors.NoValue → (kept : Kept) → marks tape.now ≡ tape_of kept → ⊥ }
 {
-    match json_of(alloc, schema, of, tape, pretty) {
-        Ok(text) => {
-            let mut line = text;
-            push_str(&mut line, "\n")?;
-            Ok(line)
-        }
-        Err(JsonError::OutOfMemory) => Err(RunError::OutOfMemory),
-        Err(JsonError::NoValue) => unreachable!(),
+    let mut text = json_of(alloc, schema, of, tape, pretty)?;
+    push_str(&mut text, "\n")?;
+    Ok(text)
+}
+
+/// How a run ends where a value could not be shown.
+fn run_error(error: JsonError) -> RunError
+    requires { error ≢ errors.NoValue }
+{
+    match error {
+        JsonError::OutOfMemory => RunError::OutOfMemory,
+        JsonError::NoValue => unreachable!(),
     }
 }
 
@@ -80,10 +85,10 @@ pub fn decode(
 {
     let mut tape = Vec::new(alloc);
     match read(schema, of, by.coding, input.octets, &mut tape)? {
-        None => {
-            let text = value_line(alloc, schema, of, &tape, by.pretty)?;
-            Ok(Decoded::Value(text))
-        }
+        None => match value_line(alloc, schema, of, &tape, by.pretty) {
+            Ok(text) => Ok(Decoded::Value(text)),
+            Err(error) => Err(run_error(error)),
+        },
         Some(refusal) => {
             let mut line = Vec::new(alloc);
             push_refusal(alloc, &mut line, input, schema, of, &refusal)?;
@@ -105,10 +110,10 @@ fn decode_next<'a>(
 {
     let mut tape = Vec::new(alloc);
     match read_next(schema, of, by.coding, input.octets, &mut tape)? {
-        Next::Value(rest) => {
-            let text = value_line(alloc, schema, of, &tape, by.pretty)?;
-            Ok(NextLine::Value(text, rest))
-        }
+        Next::Value(rest) => match value_line(alloc, schema, of, &tape, by.pretty) {
+            Ok(text) => Ok(NextLine::Value(text, rest)),
+            Err(error) => Err(run_error(error)),
+        },
         Next::Refused(refusal) => {
             let mut line = Vec::new(alloc);
             push_refusal(alloc, &mut line, input, schema, of, &refusal)?;

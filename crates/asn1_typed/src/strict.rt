@@ -54,7 +54,8 @@ fn push_difference(
     push_str(text, ": octet ")?;
     push_number(text, input.offset.saturating_add(octet) as u64)?;
     text.extend_from_slice(path.as_slice())?;
-    push_str(text, ": the strict encoding of the value differs here\n")
+    push_str(text, ": the strict encoding of the value differs here\n")?;
+    Ok(())
 }
 
 /// Appends that a value has no strict encoding.
@@ -94,12 +95,20 @@ pub fn check_typed(
     ) {
         Ok(()) => {
             push_strict(text, input, schema, of)?;
-            return Ok(Finding::Holds);
+            Ok(Finding::Holds)
         }
-        Err(NotStrict::OutOfMemory) => return Err(RunError::OutOfMemory),
-        Err(NotStrict::NotDer(_)) => push_refusal(alloc, text, input, schema, of, &refusal)?,
-        Err(NotStrict::Differs(octet)) => push_difference(alloc, text, input, schema, of, octet)?,
-        Err(NotStrict::NoEncoding) => push_no_encoding(text, input)?,
+        Err(NotStrict::OutOfMemory) => Err(RunError::OutOfMemory),
+        Err(NotStrict::NotDer(_)) => {
+            push_refusal(alloc, text, input, schema, of, &refusal)?;
+            Ok(Finding::Refused)
+        }
+        Err(NotStrict::Differs(octet)) => {
+            push_difference(alloc, text, input, schema, of, octet)?;
+            Ok(Finding::Refused)
+        }
+        Err(NotStrict::NoEncoding) => {
+            push_no_encoding(text, input)?;
+            Ok(Finding::Refused)
+        }
     }
-    Ok(Finding::Refused)
 }
