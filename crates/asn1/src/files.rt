@@ -200,5 +200,11 @@ pub fn documents(
     };
     let name = String::from_str(alloc, path)?;
     let label = None;
-    Ok(vec![in alloc; Document { name, label, octets }]?)
+    Ok(vec![in alloc;
+        Document {
+            name,
+            label,
+            octets
+        },
+    ]?)
 }

@@ -23,7 +23,11 @@ pub fn texts<R: Files + Input + Eprint + AllocGlobal>(
             Ok(octets) => {
                 let name = String::from_str(alloc, path)?;
                 let label = None;
-                found.push(Document { name, label, octets })?;
+                found.push(Document {
+                    name,
+                    label,
+                    octets,
+                })?;
             }
             Err(error) => {
                 told(rt, path, &error)?;
@@ -35,7 +39,10 @@ pub fn texts<R: Files + Input + Eprint + AllocGlobal>(
 }
 
 /// The texts with their names.
-pub fn sources<'a>(alloc: Global, documents: &'a [Document]) -> Result<Vec<Source<'a>>, AllocError> {
+pub fn sources<'a>(
+    alloc: Global,
+    documents: &'a [Document],
+) -> Result<Vec<Source<'a>>, AllocError> {
     let mut sources = Vec::new(alloc);
     for document in documents {
         sources.push(Source {

@@ -1,5 +1,5 @@
 -- What is told of octets by a type: the JSON of their value, or why they have none.
-use Rattle.std.specs.Prelude.{ℕ, ◌≡◌, Bool, List, [], ◌∷◌, ◌++◌, codes, flat_map, length, Option, Some, None, Vec}
+use Rattle.std.specs.Prelude.{ℕ, ◌≡◌, Bool, List, [], ◌++◌, codes, flat_map, length, Option, Some, None, Vec}
 use Rattle.std.specs.Global.{Global}
 use Rattle.asn1_schema.specs.declared.build.Schema.{Schema}
 use Rattle.asn1_schema.specs.declared.refusal.Refusal.{Refusal}
@@ -53,15 +53,17 @@ EndsRow by schema of left None = left.octets.now ≡ []
 EndsRow by schema of left (Some line) =
     NoFront (IsWordOf by.coding schema.nodes.items 64 of) left.octets.now × IsRefused schema left line.items
 
--- Values follow one another from the front of the octets, and these are their texts.
-pub record DecodesRow (by : Decoding) (schema : Schema) (of : ℕ) (input : Input) (refused : Option (Vec ℕ Global))
-    (shown : List ℕ) : Type 0 where
+-- Values follow one another from the front of the input up to what is left, and these are their texts.
+pub record ValuesBefore (by : Decoding) (schema : Schema) (of : ℕ) (input left : Input) (shown : List ℕ) : Type 0 where
   pub values : List Value
   pub words : List ℕ
-  pub left : Input
   pub is : input.octets.now ≡ words ++ left.octets.now
+  pub joined : IsJoined (IsWordOf by.coding schema.nodes.items 64 of) words values
   pub name : left.name ≡ input.name
   pub offset : left.offset ≡ sum_within input.offset (length words)
-  pub joined : IsJoined (IsWordOf by.coding schema.nodes.items 64 of) words values
   pub texts : shown ≡ value_texts schema by.pretty of values
-  pub ends : EndsRow by schema of left refused
+
+-- the values of a row, and its end
+abbrev pub DecodesRow : Decoding → Schema → ℕ → Input → Option (Vec ℕ Global) → List ℕ → Type 0
+DecodesRow by schema of input refused shown = (left : Input) × ValuesBefore by schema of input left shown ×
+    EndsRow by schema of left refused

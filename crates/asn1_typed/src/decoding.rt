@@ -73,15 +73,15 @@ fn run_error(error: JsonError) -> RunError
 }
 
 /// Decodes octets that are one value whole.
-pub fn decode(
+pub fn decode<'a>(
     alloc: Global,
-    schema: &Schema<'_>,
+    schema: &'a Schema<'_>,
     of: usize,
     by: Decoding,
-    input: Input<'_>,
+    input: Input<'a>,
 ) -> Result<Decoded, RunError>
     requires { is_sound schema.now.nodes.items ≡ true }
-    ensures { IfOk result (IsDecoded by schema.now of input.entry) }
+    ensures { IfOk result (IsDecoded by schema.entry.now of input.entry) }
 {
     let mut tape = Vec::new(alloc);
     match read(schema, of, by.coding, input.octets, &mut tape)? {
@@ -124,17 +124,17 @@ fn decode_next<'a>(
 
 /// Writes the values that octets are of, each in a line. Where none begins what is left, the line of a refusal is
 /// answered.
-pub fn decode_lines<W: Write>(
+pub fn decode_lines<'a, W: Write>(
     alloc: Global,
-    schema: &Schema<'_>,
+    schema: &'a Schema<'_>,
     of: usize,
     by: Decoding,
-    input: Input<'_>,
+    input: Input<'a>,
     out: &mut W,
 ) -> Result<Option<Vec<u8>>, RunError>
     requires { is_sound schema.now.nodes.items ≡ true }
     ensures { IfOk result (λ refused. (shown : List ℕ) ×
-        DecodesRow by schema.now of input.entry refused shown ×
+        DecodesRow by schema.entry.now of input.entry refused shown ×
         Appends (W.contents out.old) (W.contents out.new) shown) }
 {
     let mut left = input;
@@ -142,8 +142,12 @@ pub fn decode_lines<W: Write>(
         match decode_next(alloc, schema, of, by, left)? {
             NextLine::Value(text, rest) => {
                 out.write_all(&text)?;
-                left.offset = left.offset.saturating_add(left.octets.len() - rest.len());
-                left.octets = rest;
+                let len = left.octets.len() - rest.len();
+                left = Input {
+                    name: input.name,
+                    offset: left.offset.saturating_add(len),
+                    octets: rest,
+                };
             }
             NextLine::Refused(line) => return Ok(Some(line)),
         }
