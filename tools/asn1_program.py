@@ -5,7 +5,7 @@
 
 The program is what `rt run` leaves in `crates/asn1/out/asn1`. Each certificate of /etc/ssl/certs must have the offsets, depths and
 lengths that `openssl asn1parse` prints; each of some thousand changed certificates the verdict of the model, with the
-offset and the section of X.690; odd files and modules their statuses and lines. What does otherwise has a line, and then this ends
+offset and the section of X.690; odd files and modules their statuses and lines; values of types their JSON. What does otherwise has a line, and then this ends
 with status 1. The last line counts the rows.
 """
 import json
@@ -338,12 +338,82 @@ def modules(program, room):
     yield "types, no such file", (ended.returncode, ended.stderr.count(b"\n"), ended.stdout), (2, 1, b"")
 
 
+DECODED = b"""M DEFINITIONS ::= BEGIN
+A ::= SEQUENCE { a BOOLEAN DEFAULT FALSE, b [0] IMPLICIT INTEGER OPTIONAL, c C, ... }
+C ::= CHOICE { n NULL, i INTEGER { one(1) }, e ENUMERATED { red, green(5) }, s SEQUENCE OF INTEGER (-9..9) }
+D ::= SET { bits BIT STRING { zero(0), one(1) }, octets OCTET STRING, id OBJECT IDENTIFIER, text UTF8String }
+E ::= SEQUENCE { time UTCTime, wide BMPString, any ANY, relative [1] IMPLICIT RELATIVE-OID }
+G ::= SET OF INTEGER
+END
+"""
+# Types, values of them, what is asked besides, the status, the lines of output (X.697), and what is told.
+VALUES = [
+    ("A", "30020500", (), 0, ['{"a":false,"c":{"n":null}}'], ""),
+    ("A", "30090101ff800102020101", (), 0, ['{"a":true,"b":2,"c":{"i":1}}'], ""),
+    ("A", "300405000c00", (), 0, ['{"a":false,"c":{"n":null},"...":["0c00"]}'], ""),
+    ("M.C", "0209ff0000000000000000", (), 0, ['{"i":-18446744073709551616}'], ""),
+    ("C", "0a0105", (), 0, ['{"e":"green"}'], ""),
+    ("C", "30090201f7020100020109", (), 0, ['{"s":[-9,0,9]}'], ""),
+    ("D", "3119030206c004020aff06032a86480c0a6122c3a95c0af09f9880", (), 0,
+     ['{"bits":{"value":"c0","length":2},"octets":"0aff","id":"1.2.840","text":"a\\"\u00e9\\\\\\n\U0001f600"}'], ""),
+    ("E", "301c170d3236313133303039303030305a1e040041041604010081020506", (), 0,
+     ['{"time":"261130090000Z","wide":"A\u0416","any":"040100","relative":"5.6"}'], ""),
+    ("A", "308005000000", ("--rules", "ber"), 0, ['{"a":false,"c":{"n":null}}'], ""),
+    ("A", "30020500" "30050101ff0500", ("--lines",), 0, ['{"a":false,"c":{"n":null}}', '{"a":true,"c":{"n":null}}'], ""),
+    ("A", "30020500" "30020400", ("--lines",), 1, ['{"a":false,"c":{"n":null}}'], "FILE: octet 6, c (C): a component is missing"),
+    ("A", "", ("--lines",), 0, [], ""),
+    ("A", "308005000000", (), 1, [], "FILE: octet 0 (A): no element begins here, or it is cut"),
+    ("A", "3002050030", (), 1, [], "FILE: octet 4 (A): octets follow where none may"),
+    ("C", "300302010a", (), 1, [], "FILE: octet 2, s[0] (INTEGER within -9..9): the number or the size is out of bounds"),
+    ("F", "0500", (), 2, [], "asn1: FILE: no type F in the modules"),
+    ("N.A", "0500", (), 2, [], "asn1: FILE: no type N.A in the modules"),
+]
+# Types, octets, the status, and what is told of whether they are the strict encoding of a value.
+STRICT = [
+    ("A", "30020500", 0, "FILE: strict DER of A"),
+    ("A", "30090101ff800102020101", 0, "FILE: strict DER of A"),
+    ("A", "30090101008001020500", 1, "FILE: octet 0 (A): no element begins here, or it is cut"),
+    ("A", "30080101008001020500", 1, "FILE: octet 1: the strict encoding of the value differs here"),
+    ("D", "3119030206c004020aff06032a86480c0a6122c3a95c0af09f9880", 0, "FILE: strict DER of D"),
+    ("D", "3119030206c004020aff0c0a6122c3a95c0af09f988006032a8648", 1, "FILE: octet 22, id (D): the elements of a set do not ascend by their tags"),
+    ("C", "300302010a", 1, "FILE: octet 2, s[0] (INTEGER within -9..9): the number or the size is out of bounds"),
+    ("G", "3106020101020100", 1, "FILE: the value has no strict encoding: a SET OF does not ascend, or named bits end in zeros"),
+]
+
+
+def values(program, room):
+    """Yields what octets say as JSON, by a type of a module."""
+    module, file = room / "module", room / "value"
+    module.write_bytes(DECODED)
+    for name, octets, asked, status, lines, told in VALUES:
+        file.write_bytes(bytes.fromhex(octets))
+        ended = run(program, "decode", "--from", "der", "--module", module, "--type", name, *asked, file)
+        expected = (status, [it.encode() for it in lines], told.replace("FILE", str(file)).encode())
+        yield f"decode, {name} of {octets}", (ended.returncode, ended.stdout.splitlines(), ended.stderr.strip()), expected
+    for name, octets, status, told in STRICT:
+        file.write_bytes(bytes.fromhex(octets))
+        ended = run(program, "check", "--from", "der", "--module", module, "--type", name, file)
+        expected = (status, told.replace("FILE", str(file)).encode())
+        yield f"check, {name} of {octets}", (ended.returncode, ended.stdout.strip()), expected
+
+
+def certificates(program):
+    """Yields what certificates say: JSON with the number and the moments that openssl tells, and the names of components."""
+    for path in sorted(CERTIFICATES.glob("*.pem"))[:40]:
+        ended = run(program, "decode", path)
+        said = subprocess.run(["openssl", "x509", "-in", path, "-noout", "-serial"], capture_output=True, text=True, check=True)
+        signed = json.loads(ended.stdout)["tbsCertificate"]
+        seen = (ended.returncode, signed["serialNumber"], set(signed) >= {"issuer", "validity", "subject", "subjectPublicKeyInfo"})
+        yield f"decode, {path.name}", seen, (0, int(said.stdout.partition("=")[2], 16), True)
+
+
 def main():
     with tempfile.TemporaryDirectory(prefix="asn1-") as name:
         room, wrong, count = pathlib.Path(name), 0, 0
         program = sys.argv[1]
         for rows in (trees(program), odd_files(program, room), refusals(program, room), failures(program, room),
-                     modules(program, room), verdicts(program, room, 5000)):
+                     modules(program, room), values(program, room), certificates(program),
+                     verdicts(program, room, 5000)):
             for what, seen, expected in rows:
                 count += 1
                 if seen != expected:

@@ -32,6 +32,8 @@ pub enum Form {
 pub struct Document {
     /// The file's name, and of a block of PEM the label and the line too.
     pub name: String,
+    /// The label of a block of PEM.
+    pub label: Option<String>,
     /// What is in it.
     pub octets: Vec<u8>,
 }
@@ -173,6 +175,7 @@ fn of_pem(alloc: Global, path: &str, text: &[u8]) -> Result<Vec<Document>, FileE
         let name = format!(in alloc; "{path}: {label} in line {line}")?;
         found.push(Document {
             name,
+            label: Some(block.label),
             octets: block.octets,
         })?;
     }
@@ -202,5 +205,10 @@ pub fn documents(
         Form::Base64 => of_base64(alloc, octets.as_slice())?,
     };
     let name = String::from_str(alloc, path)?;
-    Ok(vec![in alloc; Document { name, octets }]?)
+    let document = Document {
+        name,
+        label: None,
+        octets,
+    };
+    Ok(vec![in alloc; document]?)
 }

@@ -4,10 +4,12 @@
 mod files;
 mod modules;
 mod run;
+mod typed;
 mod words;
 
+use std::io::IsTerminal;
 use std::process::ExitCode;
 
 fn main(rt: HostRuntime) -> ExitCode {
-    run::status(&rt)
+    run::status(&rt, rt.stdout().is_terminal())
 }

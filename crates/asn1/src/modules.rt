@@ -11,7 +11,7 @@ use std::io::{BufWriter, Write};
 use std::rt::Files;
 
 /// The texts of files, or none where one can't be read, which is told on standard error.
-fn texts<R: Files + Input + Eprint + AllocGlobal>(
+pub fn texts<R: Files + Input + Eprint + AllocGlobal>(
     rt: &R,
     paths: &[&str],
     most: u64,
@@ -22,7 +22,12 @@ fn texts<R: Files + Input + Eprint + AllocGlobal>(
         match read(rt, path, most) {
             Ok(octets) => {
                 let name = String::from_str(alloc, path)?;
-                found.push(Document { name, octets })?;
+                let label = None;
+                found.push(Document {
+                    name,
+                    label,
+                    octets,
+                })?;
             }
             Err(error) => {
                 told(rt, path, &error)?;
@@ -34,7 +39,10 @@ fn texts<R: Files + Input + Eprint + AllocGlobal>(
 }
 
 /// The texts with their names.
-fn sources<'a>(alloc: Global, documents: &'a [Document]) -> Result<Vec<Source<'a>>, AllocError> {
+pub fn sources<'a>(
+    alloc: Global,
+    documents: &'a [Document],
+) -> Result<Vec<Source<'a>>, AllocError> {
     let mut sources = Vec::new(alloc);
     for document in documents {
         sources.push(Source {

@@ -2,7 +2,8 @@
 
 use crate::files::{Document, FileError, documents, read, told};
 use crate::modules::answer_types;
-use crate::words::{Call, Task, asked, command, modules, most};
+use crate::typed::answer_typed;
+use crate::words::{Call, Task, asked, asked_by_type, command, modules, most};
 use asn1_engine::outcome::{FAILED, Outcome};
 use asn1_engine::plain::seems_text;
 use asn1_engine::{Finding, RunError, check, check_all, dump, dump_at};
@@ -41,7 +42,9 @@ fn answer<W: Write>(
 fn hint<R: Eprint>(rt: &R, document: &Document) {
     if seems_text(document.octets.as_slice()) {
         let name = document.name.as_str();
-        let _ = eprintln!(rt; "asn1: {name}: this seems to be text, not BER; --from hex and --from base64 read text");
+        let _ = eprintln!(rt;
+            "asn1: {name}: this seems to be text, not BER; --from hex and --from base64 read text"
+        );
     }
 }
 
@@ -95,7 +98,10 @@ fn answer_files<R: Files + Input + Print + Eprint + AllocGlobal>(
 }
 
 /// Runs a call.
-fn run<R: Files + Env + Input + Print + Eprint + AllocGlobal>(rt: &R) -> anyhow::Result<u8> {
+fn run<R: Files + Env + Input + Print + Eprint + AllocGlobal>(
+    rt: &R,
+    on_terminal: bool,
+) -> anyhow::Result<u8> {
     let alloc = rt.alloc();
     let words: Vec<String> = env::args(rt)?.collect(alloc)?;
     let matches = match command(alloc)?.try_get_matches_from(words.as_slice()) {
@@ -114,12 +120,18 @@ fn run<R: Files + Env + Input + Print + Eprint + AllocGlobal>(rt: &R) -> anyhow:
     let Some(paths) = inner.get_strs("file") else {
         return Ok(FAILED);
     };
+    if let Some(call) = asked_by_type(name, inner, on_terminal) {
+        return Ok(answer_typed(rt, &call, paths)?.status());
+    }
     Ok(answer_files(rt, asked(name, inner), paths)?.status())
 }
 
 /// The exit status of a call: 0, 1 for octets that are refused, or 2. A failure has one line on standard error.
-pub fn status<R: Files + Env + Input + Print + Eprint + AllocGlobal>(rt: &R) -> ExitCode {
-    match run(rt) {
+pub fn status<R: Files + Env + Input + Print + Eprint + AllocGlobal>(
+    rt: &R,
+    on_terminal: bool,
+) -> ExitCode {
+    match run(rt, on_terminal) {
         Ok(status) => ExitCode::from(status),
         Err(error) => {
             let _ = eprintln!(rt; "asn1: {error}");

@@ -2,6 +2,9 @@
 
 use crate::files::Form;
 use asn1_engine::Options;
+use asn1_schema::coding::Coding;
+use asn1_typed::Decoding;
+use asn1_typed::reading::MOST_DEPTH;
 use clap::{Arg, ArgAction, ArgMatches, Command, value_parser};
 use std::alloc::{AllocError, Global};
 
@@ -25,6 +28,32 @@ pub enum Task {
 pub struct Call {
     /// The task.
     pub task: Task,
+    /// How the files hold octets.
+    pub form: Form,
+    /// As many octets of a file are read at most.
+    pub most: u64,
+}
+
+/// What is asked of each file by a type.
+#[derive(Debug, Clone, Copy)]
+pub enum TypedTask {
+    /// Its value as JSON.
+    Decode(Decoding),
+    /// The values that it has in a row, each as JSON in a line.
+    DecodeLines(Decoding),
+    /// Whether it is the strict encoding of a value.
+    Check,
+}
+
+/// What is asked by the types of modules.
+#[derive(Debug, Clone, Copy)]
+pub struct TypedCall<'m> {
+    /// The files of modules; without one, those that are built in.
+    pub modules: &'m [&'m str],
+    /// The name of the type; without one, the label of a block of PEM says it.
+    pub name: Option<&'m str>,
+    /// The task.
+    pub task: TypedTask,
     /// How the files hold octets.
     pub form: Form,
     /// As many octets of a file are read at most.
@@ -118,25 +147,74 @@ fn check_command<'a>(alloc: Global) -> Result<Command<'a>, AllocError> {
             alloc,
             "all",
             "Goes on behind the first departure, where that can be",
+        ))?
+        .arg(module_files(alloc))?
+        .arg(type_name(
+            alloc,
+            "Tells also whether they are of this type, as Certificate or PKCS-1.RSAPrivateKey",
+        ))?;
+    with_files(alloc, command)
+}
+
+/// The option that names files of modules.
+fn module_files<'a>(alloc: Global) -> Arg<'a> {
+    Arg::new(alloc, "module")
+        .long("module")
+        .value_name("FILE")
+        .help(
+            "A file of ASN.1 modules, or - for standard input; without one, those that are built in",
+        )
+        .action(ArgAction::Append)
+}
+
+/// The option that names a type.
+fn type_name<'a>(alloc: Global, help: &'a str) -> Arg<'a> {
+    Arg::new(alloc, "type")
+        .long("type")
+        .value_name("NAME")
+        .help(help)
+        .action(ArgAction::Set)
+}
+
+/// The words of `decode`.
+fn decode_command<'a>(alloc: Global) -> Result<Command<'a>, AllocError> {
+    let name = type_name(
+        alloc,
+        "The type, as Certificate or PKCS-1.RSAPrivateKey; without it, a label of PEM says it",
+    );
+    let rules = Arg::new(alloc, "rules")
+        .long("rules")
+        .value_name("RULES")
+        .help("The rules that octets are read by; der by itself")
+        .value_parser(["der", "ber"].as_slice())
+        .action(ArgAction::Set);
+    let command = Command::new(alloc, "decode")
+        .about("Prints the values of files as JSON, by a type of ASN.1 modules")
+        .after_help("Example: asn1 decode --type Certificate certificate.der")
+        .arg(module_files(alloc))?
+        .arg(name)?
+        .arg(rules)?
+        .arg(flag(
+            alloc,
+            "lines",
+            "Files are of values in a row, each of which has a line",
+        ))?
+        .arg(flag(
+            alloc,
+            "pretty",
+            "JSON has a line for each member, as on a terminal",
         ))?;
     with_files(alloc, command)
 }
 
 /// The words of `types`.
 fn types_command<'a>(alloc: Global) -> Result<Command<'a>, AllocError> {
-    let module = Arg::new(alloc, "module")
-        .long("module")
-        .value_name("FILE")
-        .help(
-            "A file of ASN.1 modules, or - for standard input; without one, those that are built in",
-        )
-        .action(ArgAction::Append);
     Command::new(alloc, "types")
         .about(
             "Prints the types of modules, a line each, what is left out, and whether they are sound",
         )
         .after_help("Example: asn1 types --module names.asn1 --module certificates.asn1")
-        .arg(module)?
+        .arg(module_files(alloc))?
         .arg(most_octets(alloc))
 }
 
@@ -144,7 +222,7 @@ fn types_command<'a>(alloc: Global) -> Result<Command<'a>, AllocError> {
 pub fn command<'a>(alloc: Global) -> Result<Command<'a>, AllocError> {
     Command::new(alloc, "asn1")
         .version("0.1")
-        .about("Shows what is in files of ASN.1, and the types of modules")
+        .about("Shows what is in files of ASN.1, also as JSON by the types of modules")
         .after_help(
             "Example: asn1 dump certificate.pem\n\nStatus: 0, or 1 for refused octets, or 2 for any other failure",
         )
@@ -152,6 +230,7 @@ pub fn command<'a>(alloc: Global) -> Result<Command<'a>, AllocError> {
         .arg_required_else_help(true)
         .subcommand(dump_command(alloc)?)?
         .subcommand(check_command(alloc)?)?
+        .subcommand(decode_command(alloc)?)?
         .subcommand(types_command(alloc)?)
 }
 
@@ -171,6 +250,60 @@ pub fn modules<'m>(matches: &'m ArgMatches<'_>) -> &'m [&'m str] {
     matches.get_strs("module").unwrap_or(&[])
 }
 
+/// How the files of a call hold octets.
+fn form(matches: &ArgMatches<'_>) -> Form {
+    match matches.get_str("from") {
+        Some("der") => Form::Octets,
+        Some("pem") => Form::Pem,
+        Some("hex") => Form::Hexadecimal,
+        Some("base64") => Form::Base64,
+        _ => Form::Told,
+    }
+}
+
+/// What `decode` asks of each file. On a terminal JSON has a line for each member, but where each value has a line.
+fn decode_task(matches: &ArgMatches<'_>, on_terminal: bool) -> TypedTask {
+    let lines = matches.get_flag("lines");
+    let by = Decoding {
+        coding: match matches.get_str("rules") {
+            Some("ber") => Coding::Ber(MOST_DEPTH),
+            _ => Coding::Der,
+        },
+        pretty: !lines && (on_terminal || matches.get_flag("pretty")),
+    };
+    if lines {
+        TypedTask::DecodeLines(by)
+    } else {
+        TypedTask::Decode(by)
+    }
+}
+
+/// What the words ask for by the types of modules, if they do.
+pub fn asked_by_type<'m>(
+    name: &str,
+    matches: &'m ArgMatches<'_>,
+    on_terminal: bool,
+) -> Option<TypedCall<'m>> {
+    if name != "decode" && name != "check" {
+        return None;
+    }
+    let call = TypedCall {
+        modules: modules(matches),
+        name: matches.get_str("type"),
+        task: if name == "check" {
+            TypedTask::Check
+        } else {
+            decode_task(matches, on_terminal)
+        },
+        form: form(matches),
+        most: most(matches),
+    };
+    if name == "check" && call.name.is_none() && call.modules.is_empty() {
+        return None;
+    }
+    Some(call)
+}
+
 /// What the words ask for.
 pub fn asked(name: &str, matches: &ArgMatches<'_>) -> Call {
     let task = if name == "check" {
@@ -184,13 +317,7 @@ pub fn asked(name: &str, matches: &ArgMatches<'_>) -> Call {
         };
         Task::Dump(options, given(matches, "at"))
     };
-    let form = match matches.get_str("from") {
-        Some("der") => Form::Octets,
-        Some("pem") => Form::Pem,
-        Some("hex") => Form::Hexadecimal,
-        Some("base64") => Form::Base64,
-        _ => Form::Told,
-    };
+    let form = form(matches);
     let most = most(matches);
     Call { task, form, most }
 }

@@ -1,2 +1,5 @@
 mod Appended
+mod Found
+mod Gains
 mod NoValues
+mod ValuesInRow

@@ -1,5 +1,5 @@
 -- Octets that are no value of a type.
-use Rattle.std.proofs.Common.{◌≡◌, ◌≢◌, ℕ, List, [], ◌++◌, true, sym, ◌∙◌}
+use Rattle.std.proofs.Common.{◌≡◌, ℕ, List, [], ◌++◌, true, sym, ◌∙◌}
 use Rattle.std.proofs.lemmas.List.{append-nil, append_cancel_left}
 use Rattle.x690.specs.Joined.{IsOneFront, NoFront}
 use Rattle.asn1_schema.specs.declared.coding.Coding.{Coding}
@@ -17,7 +17,7 @@ pub none_in_front : (coding : Coding) (table : List Node) (of : ℕ) (octets : L
 none_in_front coding table of octets none value word = none octets [] value (sym (append-nil octets)) word
 
 -- octets begin with one word
-one_front : (coding : Coding) (table : List Node) (depth of : ℕ) → is_sound table ≡ true →
+pub one_front : (coding : Coding) (table : List Node) (depth of : ℕ) → is_sound table ≡ true →
     IsOneFront (IsWordOf coding table depth of)
 one_front codings.Der table depth of sound = front_der table sound depth of
 one_front (codings.Ber max) table depth of sound = front_ber table sound max depth of

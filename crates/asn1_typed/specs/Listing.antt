@@ -1,5 +1,5 @@
 -- What is written of the types of modules.
-use Rattle.std.specs.Prelude.{ℕ, ◌≡◌, ◌⊎◌, true, false, List, [], ◌∷◌, ◌++◌, codes, flat_map, Option, Some, None, slice_get}
+use Rattle.std.specs.Prelude.{ℕ, ◌≡◌, ◌⊎◌, true, false, List, [], ◌++◌, codes, flat_map, Option, Some, None, slice_get}
 use Rattle.asn1_schema.specs.declared.schema.Node.{Node}
 use Rattle.asn1_schema.specs.declared.names.TypeNames.{TypeNames}
 use Rattle.asn1_schema.specs.Sound.{is_sound}

@@ -1,5 +1,5 @@
 -- Places in texts, and what is told of them.
-use Rattle.std.specs.Prelude.{ℕ, ◌≡◌, List, ◌∷◌, ◌++◌, ◌+◌, [], codes, take, count_by, Option, Some, None, slice_get}
+use Rattle.std.specs.Prelude.{ℕ, ◌≡◌, List, ◌++◌, ◌+◌, codes, take, count_by, Option, Some, None, slice_get}
 use Rattle.std.specs.List.{suffix_len}
 use Rattle.asn1_module.specs.Mistakes.{is_line_feed, is_in_line}
 use Rattle.asn1_module.specs.declared.mistake.Place.{Place}

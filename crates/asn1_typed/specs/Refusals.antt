@@ -6,6 +6,8 @@ use Rattle.asn1_schema.specs.declared.refusal.Refusal.{Refusal}
 use Rattle.asn1_schema.specs.declared.schema.Node.{Node}
 use Rattle.asn1_schema.specs.declared.names.TypeNames.{TypeNames}
 use Rattle.asn1_words.specs.Words.{number_text}
+use Rattle.asn1_engine.specs.Trees.{sum_within}
+use Rattle.asn1_typed.specs.declared.input.Input.{Input}
 use Rattle.asn1_typed.specs.Kinds.{named_text}
 
 abbrev pub reason_text : Reason → List ℕ
@@ -24,7 +26,7 @@ reason_text reasons.Default = codes "the default is no value of its type"
 reason_text reasons.TrailingOctets = codes "octets follow where none may"
 
 -- the line of a refusal: the name of the type, or else its kind; and whatever the names of the parts are
-abbrev pub IsRefusalLine : List Node → List TypeNames → List ℕ → Refusal → List ℕ → Type 0
-IsRefusalLine table names name refusal text = (path : List ℕ) × (text ≡ name ++ codes ": octet " ++
-    number_text refusal.octet ++ path ++ codes " (" ++ named_text 16 table names refusal.of ++ codes "): " ++
+abbrev pub IsRefusalLine : List Node → List TypeNames → Input → Refusal → List ℕ → Type 0
+IsRefusalLine table names input refusal text = (path : List ℕ) × (text ≡ input.name.now ++ codes ": octet " ++
+    number_text (sum_within input.offset refusal.octet) ++ path ++ codes " (" ++ named_text 16 table names refusal.of ++ codes "): " ++
     reason_text refusal.reason ++ codes "\n")

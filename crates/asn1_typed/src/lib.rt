@@ -1,6 +1,8 @@
 //! What the program `asn1` says by the text of modules: their types, and whether these are sound.
 #![tactic(auto)]
 
+pub mod decoding;
+pub mod input;
 pub mod kinds;
 pub mod labels;
 pub mod listing;
@@ -8,9 +10,17 @@ mod path;
 pub mod places;
 pub mod reading;
 pub mod refusals;
+pub mod sought;
 pub mod source;
 pub mod standards;
+pub mod strict;
+pub mod tables;
 pub mod tags;
 
+pub use decoding::{Decoded, Decoding, decode, decode_lines};
+pub use input::Input;
 pub use listing::types;
+pub use sought::{TypeName, type_named};
 pub use source::Source;
+pub use strict::check_typed;
+pub use tables::{TypeTable, sound_types};

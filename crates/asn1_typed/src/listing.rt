@@ -77,7 +77,7 @@ fn push_notes(text: &mut Vec<u8>, sources: &[Source<'_>], notes: &[Note]) -> Res
 }
 
 /// Appends why a table is not sound.
-fn push_unsound(
+pub fn push_unsound(
     alloc: Global,
     text: &mut Vec<u8>,
     schema: &Schema<'_>,

@@ -123,13 +123,12 @@ fn push_part(
     push_number(text, part as u64)
 }
 
-/// Whether a refusal stands in an element that ends there. A refusal of contents octets may stand at its end.
+/// Whether an octet stands in an element that ends there. Contents octets that are refused, and a component that is not
+/// there, may stand at its end.
 fn stands_before(refusal: &Refusal, end: usize) -> bool {
     match refusal.reason {
-        Reason::Tag | Reason::Bounds | Reason::Element | Reason::Depth | Reason::TrailingOctets => {
-            refusal.octet < end
-        }
-        _ => refusal.octet <= end,
+        Reason::Contents | Reason::MissingField | Reason::Default => refusal.octet <= end,
+        _ => refusal.octet < end,
     }
 }
 

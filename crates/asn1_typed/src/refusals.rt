@@ -2,6 +2,7 @@
 ghost use Rattle.std.specs.Prelude.{◌≡◌, ◌++◌, List, ℕ, OnOk};
 ghost use Rattle.asn1_typed.specs.Refusals.{IsRefusalLine, reason_text};
 
+use crate::input::Input;
 use crate::kinds::{MOST_DEPTH, push_named};
 use crate::path::push_path;
 use asn1_schema::build::Schema;
@@ -30,25 +31,24 @@ fn reason_words(reason: Reason) -> &'static str
     }
 }
 
-/// Appends the line of a refusal: the octet, the names of the parts that lead to it as far as they are known, and why.
+/// Appends the line of a refusal: the octet of the file, the names of the parts that lead to it as far as they are known, and why.
 pub fn push_refusal(
     alloc: Global,
     text: &mut Vec<u8>,
-    name: &str,
+    input: Input<'_>,
     schema: &Schema<'_>,
     of: usize,
-    octets: &[u8],
     refusal: &Refusal,
 ) -> Result<(), AllocError>
     ensures { OnOk result ((line : List ℕ) ×
-        IsRefusalLine schema.now.nodes.items schema.now.names.items name.now refusal.now line ×
+        IsRefusalLine schema.now.nodes.items schema.now.names.items input.entry refusal.now line ×
         (text.new.items ≡ text.old.items ++ line)) }
 {
     let mut path = Vec::new(alloc);
-    push_path(&mut path, schema, of, octets, refusal)?;
-    push_str(text, name)?;
+    push_path(&mut path, schema, of, input.octets, refusal)?;
+    push_str(text, input.name)?;
     push_str(text, ": octet ")?;
-    push_number(text, refusal.octet as u64)?;
+    push_number(text, input.offset.saturating_add(refusal.octet) as u64)?;
     text.extend_from_slice(path.as_slice())?;
     push_str(text, " (")?;
     push_named(text, schema, refusal.of, MOST_DEPTH)?;

@@ -1,4 +1,3 @@
-use Rattle.std.proofs.Common.{◌++◌, ◌∙◌, ap}
 use Rattle.asn1_typed.proofs.Appended.{three}
 use Rattle.asn1_typed.proofs.listing.push_unsound.Goals as goal
 

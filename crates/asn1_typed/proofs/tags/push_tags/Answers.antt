@@ -1,4 +1,4 @@
-use Rattle.std.proofs.Common.{◌≡◌, ◌++◌, ap, sym, subst, ◌∙◌, codes}
+use Rattle.std.proofs.Common.{◌≡◌, ◌++◌, ap, sym, subst, ◌∙◌}
 use Rattle.asn1_schema.specs.declared.schema.Tags.{Tags}
 use Rattle.asn1_typed.specs.Tags.{listed_text, tags_text}
 use Rattle.asn1_typed.proofs.Appended.{two}
