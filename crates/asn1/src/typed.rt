@@ -1,4 +1,6 @@
 //! Files, by a type of modules.
+ghost use Rattle.std.specs.Prelude.{◌≡◌, true};
+ghost use Rattle.asn1_schema.specs.Sound.{is_sound};
 
 use crate::files::{Document, documents, read, told};
 use crate::modules::{sources, texts};
@@ -56,7 +58,9 @@ fn answer_decode<R: Eprint + AllocGlobal, W: Write>(
     by: Decoding,
     octets: Octets<'_>,
     out: &mut W,
-) -> Result<Finding, RunError> {
+) -> Result<Finding, RunError>
+    requires { is_sound table.now.schema.nodes.items ≡ true }
+{
     match decode(rt.alloc(), &table.schema, of, by, octets)? {
         Decoded::Value(text) => {
             out.write_all(&text)?;
@@ -77,7 +81,9 @@ fn answer_lines<R: Eprint + AllocGlobal, W: Write>(
     by: Decoding,
     octets: Octets<'_>,
     out: &mut W,
-) -> Result<Finding, RunError> {
+) -> Result<Finding, RunError>
+    requires { is_sound table.now.schema.nodes.items ≡ true }
+{
     match decode_lines(rt.alloc(), &table.schema, of, by, octets, out)? {
         None => Ok(Finding::Holds),
         Some(line) => {
@@ -94,7 +100,9 @@ fn answer_check<W: Write>(
     of: usize,
     octets: Octets<'_>,
     out: &mut W,
-) -> Result<Finding, RunError> {
+) -> Result<Finding, RunError>
+    requires { is_sound table.now.schema.nodes.items ≡ true }
+{
     let mut text = Vec::new(alloc);
     let finding = check_typed(alloc, &mut text, &table.schema, of, octets)?;
     out.write_all(&text)?;
@@ -108,7 +116,9 @@ fn answer<R: Eprint + AllocGlobal, W: Write>(
     table: &TypeTable<'_>,
     document: &Document,
     out: &mut W,
-) -> Result<Outcome, RunError> {
+) -> Result<Outcome, RunError>
+    requires { is_sound table.now.schema.nodes.items ≡ true }
+{
     let Some(of) = type_of(rt, call, table, document)? else {
         return Ok(Outcome::Unreadable);
     };
@@ -132,7 +142,9 @@ fn answer_file<R: Files + Input + Eprint + AllocGlobal, W: Write>(
     table: &TypeTable<'_>,
     path: &str,
     out: &mut W,
-) -> Result<Outcome, RunError> {
+) -> Result<Outcome, RunError>
+    requires { is_sound table.now.schema.nodes.items ≡ true }
+{
     let octets = match read(rt, path, call.most) {
         Ok(octets) => octets,
         Err(error) => return told(rt, path, &error),
