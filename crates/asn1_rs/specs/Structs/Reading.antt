@@ -14,6 +14,11 @@ pub record IsLawfulNumbered {S : Type 0} (N : NumberedGrammar S) : Type 0 where
   pub lawful : IsLawfulItem N.grammar
   pub begins : FormNumbers N.grammar.Form N.numbers
 
+-- so it is of an item that is lawful, whose strict parts have one of these numbers
+pub lawful_under : {S : Type 0} (numbers : List ℕ) (G : ItemGrammar S) → IsLawfulItem G → FormNumbers G.Form numbers →
+    IsLawfulNumbered (record { numbers = numbers; grammar = G })
+lawful_under numbers G l begins = record { lawful = l; begins = begins }
+
 -- a required field of the type, and an optional one
 abbrev pub required_field : {S : Type 0} → NumberedGrammar S → FieldGrammar S
 required_field N = item_field (among N.numbers) N.grammar

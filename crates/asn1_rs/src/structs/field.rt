@@ -12,7 +12,7 @@ ghost use Rattle.asn1_rs.specs.Laws.Any.Value.{element_lawful};
 ghost use Rattle.asn1_rs.specs.Laws.Kinds.{lawful_item};
 ghost use Rattle.asn1_rs.specs.Optional.{IfHeld, IsAtEnd, OptionGives};
 ghost use Rattle.asn1_rs.specs.Laws.Structs.Fields.{IsLawfulField, item_field_lawful, optional_field_lawful, any_field_lawful, any_option_lawful};
-ghost use Rattle.asn1_rs.specs.Structs.{FieldGrammar, item_field, optional_field, any_number, left_out_among, left_out_at_end};
+ghost use Rattle.asn1_rs.specs.Structs.{FieldGrammar, item_field, optional_field, any_number, left_out_among, left_out_at_end, by_der, by_ber};
 ghost use Rattle.asn1_rs.specs.Structs.Reading.{left_out_field, required_field};
 ghost use Rattle.asn1_rs.specs.Structs.Data.{ItemTypeOf, LawfulTypeOf, LawfulFieldOf, AnswersField, field_of, item_of, optional_of};
 
@@ -92,10 +92,29 @@ impl<'a, T: ReadsType<'a, P>, P: ReadsBy> ReadsField<'a, P> for T {
     }
 }
 
-impl<'a, T: ReadsType<'a, P>, P: ReadsBy> ReadsField<'a, P> for Option<T> {
+// One impl for each of the rules: with the parser as a parameter a crate above could give an `Option` a `ReadsType` by a
+// parser of its own.
+impl<'a, T: ReadsType<'a, DerParser>> ReadsField<'a, DerParser> for Option<T> {
     ghost field_grammar = { left_out_field T.numbered };
 
-    ghost field_gives = { OptionGives (left_out_among T.numbered.numbers P.rules) T.type_gives };
+    ghost field_gives = { OptionGives (left_out_among T.numbered.numbers by_der) T.type_gives };
+
+    ghost lawful_field = { optional_field_lawful T.numbered.numbers T.numbered.grammar
+        T.lawful_type.lawful T.lawful_type.begins };
+
+    #[inline(always)]
+    fn read_field(alloc: Global, octets: &'a [u8]) -> ParseResult<'a, Option<T>, Error> {
+        if T::is_left_out(octets) {
+            return Ok((octets, None));
+        }
+        held(T::read_type(alloc, octets))
+    }
+}
+
+impl<'a, T: ReadsType<'a, BerParser>> ReadsField<'a, BerParser> for Option<T> {
+    ghost field_grammar = { left_out_field T.numbered };
+
+    ghost field_gives = { OptionGives (left_out_among T.numbered.numbers by_ber) T.type_gives };
 
     ghost lawful_field = { optional_field_lawful T.numbered.numbers T.numbered.grammar
         T.lawful_type.lawful T.lawful_type.begins };

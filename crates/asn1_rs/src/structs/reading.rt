@@ -10,7 +10,7 @@ ghost use Rattle.asn1_headers.specs.declared.error.Err.{Err as Refusal};
 ghost use Rattle.asn1_headers.specs.declared.error.Error.{Error};
 ghost use Rattle.asn1_rs.specs.Structs.{StructGives, among, by_ber, by_der, item_field, left_out_among};
 ghost use Rattle.asn1_rs.specs.Structs.Data.{AnswersAlso, AnswersField, struct_type};
-ghost use Rattle.asn1_rs.specs.Structs.Reading.{IsLawfulNumbered, NumberedGrammar, lawful_numbered, numbered_of, required_field};
+ghost use Rattle.asn1_rs.specs.Structs.Reading.{IsLawfulNumbered, NumberedGrammar, lawful_numbered, lawful_under, numbered_of, required_field};
 ghost use Rattle.asn1_rs.specs.Traits.{BerGives, DerGives, PassesAll};
 
 use crate::asn1_types::tagged::TagMark;
@@ -40,9 +40,6 @@ pub trait ReadsType<'a, P: ReadsBy>: Sized {
     /// What reading it may answer to these octets.
     ghost type_gives: { List ℕ → Result (List ℕ × Self) (Refusal Error) → Type 0 };
 
-    /// The grammar is lawful, and strict elements have one of the tag numbers.
-    ghost lawful_type: { IsLawfulNumbered Self.numbered };
-
     /// Whether an optional field of the type is left out of the octets. It is where there are no octets, or a header
     /// begins them that has none of its tag numbers.
     fn is_left_out(octets: &'a [u8]) -> bool
@@ -52,6 +49,9 @@ pub trait ReadsType<'a, P: ReadsBy>: Sized {
     fn read_type(alloc: Global, octets: &'a [u8]) -> ParseResult<'a, Self, Error>
         ensures exact { AnswersField P.rules (required_field numbered) octets.now (seen result) }
         ensures gives { type_gives octets.now (seen result) };
+
+    /// The grammar is lawful, and strict elements have one of the tag numbers.
+    ghost lawful_type: { IsLawfulNumbered Self.numbered };
 }
 
 /// A type of this kind that is read so.
@@ -62,9 +62,6 @@ pub trait ReadsTypeBy<'a, K, P: ReadsBy>: Sized {
     /// `type_gives`.
     ghost type_gives_by_kind: { List ℕ → Result (List ℕ × Self) (Refusal Error) → Type 0 };
 
-    /// `lawful_type`.
-    ghost lawful_by_kind: { IsLawfulNumbered Self.numbered_by_kind };
-
     /// `is_left_out`.
     fn left_out_by_kind(octets: &'a [u8]) -> bool
         ensures { IsTrue result ↔ left_out_among numbered_by_kind.numbers P.rules octets.now };
@@ -73,6 +70,9 @@ pub trait ReadsTypeBy<'a, K, P: ReadsBy>: Sized {
     fn read_by_kind(alloc: Global, octets: &'a [u8]) -> ParseResult<'a, Self, Error>
         ensures exact { AnswersField P.rules (required_field numbered_by_kind) octets.now (seen result) }
         ensures gives { type_gives_by_kind octets.now (seen result) };
+
+    /// `lawful_type`.
+    ghost lawful_numbers: { IsLawfulNumbered Self.numbered_by_kind };
 }
 
 impl<'a, T: HasKind + ReadsTypeBy<'a, T::Kind, P>, P: ReadsBy> ReadsType<'a, P> for T {
@@ -80,7 +80,7 @@ impl<'a, T: HasKind + ReadsTypeBy<'a, T::Kind, P>, P: ReadsBy> ReadsType<'a, P> 
 
     ghost type_gives = { T.type_gives_by_kind };
 
-    ghost lawful_type = { T.lawful_by_kind };
+    ghost lawful_type = { T.lawful_numbers };
 
     #[inline(always)]
     fn is_left_out(octets: &'a [u8]) -> bool {
@@ -158,7 +158,7 @@ impl<'a, K: FieldsByLaws, T: LawfulDer<'a, Error> + ToldByNumber> ReadsTypeBy<'a
 
     ghost type_gives_by_kind = { T.der_gives };
 
-    ghost lawful_by_kind = { record { lawful = T.lawful_item; begins = T.told_by_number } };
+    ghost lawful_numbers = { lawful_under T.numbers T.grammar T.lawful_item T.told_by_number };
 
     #[inline(always)]
     fn left_out_by_kind(octets: &'a [u8]) -> bool {
@@ -177,7 +177,7 @@ impl<'a, K: FieldsByLaws, T: LawfulBer<'a, Error> + ToldByNumber> ReadsTypeBy<'a
 
     ghost type_gives_by_kind = { T.ber_gives };
 
-    ghost lawful_by_kind = { record { lawful = T.lawful_item; begins = T.told_by_number } };
+    ghost lawful_numbers = { lawful_under T.numbers T.grammar T.lawful_item T.told_by_number };
 
     #[inline(always)]
     fn left_out_by_kind(octets: &'a [u8]) -> bool {
@@ -198,7 +198,7 @@ where
 
     ghost type_gives_by_kind = { T.der_gives };
 
-    ghost lawful_by_kind = { record { lawful = T.lawful_item; begins = T.told_by_number } };
+    ghost lawful_numbers = { lawful_under T.numbers T.grammar T.lawful_item T.told_by_number };
 
     #[inline(always)]
     fn left_out_by_kind(octets: &'a [u8]) -> bool {
@@ -219,7 +219,7 @@ where
 
     ghost type_gives_by_kind = { T.ber_gives };
 
-    ghost lawful_by_kind = { record { lawful = T.lawful_item; begins = T.told_by_number } };
+    ghost lawful_numbers = { lawful_under T.numbers T.grammar T.lawful_item T.told_by_number };
 
     #[inline(always)]
     fn left_out_by_kind(octets: &'a [u8]) -> bool {
@@ -238,7 +238,7 @@ impl<'a, T: ReadsFields<'a>> ReadsTypeBy<'a, FieldsKind, DerParser> for T {
     ghost type_gives_by_kind = { DerGives PassesAll
         (StructGives (AnswersAlso by_der T.laws T.fields_give)) (λ x y. y ≡ x) };
 
-    ghost lawful_by_kind = { lawful_numbered (struct_type T.laws) refl };
+    ghost lawful_numbers = { lawful_numbered (struct_type T.laws) refl };
 
     #[inline(always)]
     fn left_out_by_kind(octets: &'a [u8]) -> bool {
@@ -258,7 +258,7 @@ impl<'a, T: ReadsFieldsByBer<'a>> ReadsTypeBy<'a, FieldsKind, BerParser> for T {
     ghost type_gives_by_kind = { BerGives
         (StructGives (AnswersAlso by_ber T.laws T.fields_give_by_ber)) (λ x y. y ≡ x) };
 
-    ghost lawful_by_kind = { lawful_numbered (struct_type T.laws) refl };
+    ghost lawful_numbers = { lawful_numbered (struct_type T.laws) refl };
 
     #[inline(always)]
     fn left_out_by_kind(octets: &'a [u8]) -> bool {

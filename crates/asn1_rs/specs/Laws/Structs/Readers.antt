@@ -1,6 +1,7 @@
 -- Readers of fields, of rows and of structs are exact.
-use Rattle.std.proofs.Common.{◌≡◌, ◌≢◌, refl, ℕ, false, List, [], ◌∷◌, inl, inr}
-use Rattle.std.specs.Prelude.{◌||◌, Option, Some, None, Result, Ok, Err, IfErr}
+use Rattle.std.proofs.Common.{◌≡◌, ◌≢◌, ◌∙◌, sym, subst, refl, ℕ, Bool, true, false, List, [], ◌∷◌, inl, inr, IsTrue}
+use Rattle.std.specs.Prelude.{◌||◌, ◌↔◌, Option, Some, None, Result, Ok, Err, IfErr}
+use Rattle.std.proofs.lemmas.Bool.{false≢true}
 use Rattle.x690.specs.Octets.{IsOctets}
 use Rattle.x690.specs.Identifiers.{IsCutIdentifier}
 use Rattle.asn1_headers.specs.declared.error.Err.{Err as Refusal}
@@ -75,10 +76,10 @@ both_answer rules F G f =
 
 module _ {S : Type 0} (rules : EncodingRules) (G : ItemGrammar S) (numbers : Numbers)
     (LeftOut : EncodingRules → List ℕ → Type 0) where
-  -- None with all octets is the answer of an optional field that is left out.
-  pub none_answers : (octets : List ℕ) → LeftOut rules octets →
+  -- None with all octets is the answer of an optional field that is told to be left out.
+  pub none_answers : (octets : List ℕ) (told : Bool) → IsTrue told ↔ LeftOut rules octets → told ≡ true →
       AnswersField rules (optional_field numbers LeftOut G) octets (Ok (octets, None))
-  none_answers octets out = record { exact = λ k. (out, refl); no_memory = λ none. tt }
+  none_answers octets told tells is = record { exact = λ k. (tells.0 is, refl); no_memory = λ none. tt }
 
   nothing_held : (octets : List ℕ) → (LeftOut rules octets → ⊥) →
       ((v : G.Value) (rest : List ℕ) → Front (words_by rules G) octets v rest → ⊥) →
@@ -93,14 +94,22 @@ module _ {S : Type 0} (rules : EncodingRules) (G : ItemGrammar S) (numbers : Num
   held_reads octets (Err r) stays (inl m) = inl m
   held_reads octets (Err r) stays (inr none) = inr (nothing_held octets stays none)
 
-  -- That of one that is not is the answer of the required field, in Some.
-  pub held_answers : (octets : List ℕ) → (LeftOut rules octets → ⊥) →
+  held_answer : (octets : List ℕ) → (LeftOut rules octets → ⊥) →
       (its : Result (List ℕ × S) (Refusal Error)) → AnswersField rules (item_field numbers G) octets its →
       AnswersField rules (optional_field numbers LeftOut G) octets (in_some its)
-  held_answers octets stays (Ok x) a =
+  held_answer octets stays (Ok x) a =
       record { exact = λ k. held_reads octets (Ok x) stays (a.exact k); no_memory = λ none. tt }
-  held_answers octets stays (Err r) a =
+  held_answer octets stays (Err r) a =
       record { exact = λ k. held_reads octets (Err r) stays (a.exact k); no_memory = a.no_memory }
+
+  -- And else the answer of the required field, in Some.
+  pub held_answers : (octets : List ℕ) (told : Bool) → IsTrue told ↔ LeftOut rules octets → told ≡ false →
+      (its : Result (List ℕ × S) (Refusal Error)) → AnswersField rules (item_field numbers G) octets its →
+      (answer : Result (List ℕ × Option S) (Refusal Error)) → answer ≡ in_some its →
+      AnswersField rules (optional_field numbers LeftOut G) octets answer
+  held_answers octets told tells stays its a answer is =
+      subst (AnswersField rules (optional_field numbers LeftOut G) octets) (sym is)
+      (held_answer octets (λ out. absurd (false≢true (sym stays ∙ tells.1 out))) its a)
 
 module _ {S : Type 0} (rules : EncodingRules) (G : ItemGrammar S) (l : IsLawfulItem G)
     (reads : List ℕ → Result (List ℕ × S) (Refusal Error) → Type 0)
