@@ -7,5 +7,4 @@ pub mod Structs
 pub mod Readers
 pub mod Defaults
 pub mod Members
-pub mod Tags
 pub mod Untold
