@@ -246,7 +246,6 @@ impl<'a, T: ReadsFields<'a>> ReadsTypeBy<'a, FieldsKind, DerParser> for T {
     }
 
     #[inline(always)]
-    #[tactic(auto, using(crate::specs::Laws::Structs::Readers::struct_answers_by_der))]
     fn read_by_kind(alloc: Global, octets: &'a [u8]) -> ParseResult<'a, T, Error> {
         <T as FromDerBy<'a, StructReader, Error>>::read_by_der(alloc, octets)
     }
@@ -266,7 +265,6 @@ impl<'a, T: ReadsFieldsByBer<'a>> ReadsTypeBy<'a, FieldsKind, BerParser> for T {
     }
 
     #[inline(always)]
-    #[tactic(auto, using(crate::specs::Laws::Structs::Readers::struct_answers_by_ber))]
     fn read_by_kind(alloc: Global, octets: &'a [u8]) -> ParseResult<'a, T, Error> {
         T::from_ber(alloc, octets)
     }
