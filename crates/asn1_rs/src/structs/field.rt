@@ -18,8 +18,8 @@ ghost use Rattle.asn1_rs.specs.Structs.Data.{ItemTypeOf, LawfulTypeOf, LawfulFie
 
 use crate::asn1_types::any::Any;
 use crate::asn1_types::option::held;
-use crate::laws::in_hand::AlwaysDer;
 use crate::laws::LawfulItem;
+use crate::laws::in_hand::AlwaysDer;
 use crate::structs::ReadsBy;
 use crate::structs::reading::ReadsType;
 use crate::traits::{FromBer, FromDer};
