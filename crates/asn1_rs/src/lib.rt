@@ -307,6 +307,7 @@ pub use structs::field::FieldType;
 pub use structs::field::ItemType;
 pub use structs::field::LawfulType;
 pub use structs::field::ReadsField;
+pub use structs::items::ReadsItem;
 pub use structs::keys::KeyType;
 pub use structs::members::MemberRow;
 pub use structs::members::MemberType;

@@ -7,4 +7,5 @@ pub mod Structs
 pub mod Readers
 pub mod Defaults
 pub mod Members
+pub mod Tags
 pub mod Untold

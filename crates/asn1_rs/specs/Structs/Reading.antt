@@ -1,7 +1,7 @@
 -- What a type says of itself where it is read as a field: its grammar, and the tag numbers of its elements.
 use Rattle.std.specs.Prelude.{◌≡◌, ℕ, true, List, Option}
 use Rattle.asn1_rs.specs.Grammar.Item.{ItemGrammar, IsLawfulItem}
-use Rattle.asn1_rs.specs.Structs.{FieldGrammar, FormNumbers, item_field, optional_field, among, left_out_among}
+use Rattle.asn1_rs.specs.Structs.{FieldGrammar, FormNumbers, item_field, optional_field, among, any_number, left_out_among}
 use Rattle.asn1_rs.specs.Structs.Data.{LawfulTypeOf}
 
 -- the grammar of a type, with the tag numbers of its elements
@@ -25,6 +25,10 @@ required_field N = item_field (among N.numbers) N.grammar
 
 abbrev pub left_out_field : {S : Type 0} → NumberedGrammar S → FieldGrammar (Option S)
 left_out_field N = optional_field (among N.numbers) (left_out_among N.numbers) N.grammar
+
+-- what a reader answers of, where no tag number is looked at
+abbrev pub untold : {S : Type 0} → ItemGrammar S → FieldGrammar S
+untold G = item_field any_number G
 
 -- those of the record of a type, which is lawful where it is sound
 abbrev pub numbered_of : {S : Type 0} → LawfulTypeOf S → NumberedGrammar S

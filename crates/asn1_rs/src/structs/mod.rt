@@ -13,6 +13,7 @@
 
 pub(crate) mod defaulted;
 pub(crate) mod field;
+pub(crate) mod items;
 pub(crate) mod keys;
 pub(crate) mod leaves_by_ber;
 pub(crate) mod leaves_by_der;
@@ -20,6 +21,7 @@ pub(crate) mod members;
 pub(crate) mod numbers;
 pub(crate) mod reading;
 pub(crate) mod row;
+pub(crate) mod tags;
 pub(crate) mod types;
 pub(crate) mod untold;
 pub(crate) mod writing;

@@ -64,3 +64,28 @@ pub(crate) fn is_left_out<T: ToldByNumber>(
         Err(_) => octets.is_empty(),
     }
 }
+
+/// Whether this is the tag number of the other.
+#[inline(always)]
+#[tactic(auto, using(crate::specs::Laws::Structs::Numbers::is_the_one))]
+fn has_number_of(own: Tag, tag: Tag) -> bool
+    ensures { result ≡ is_one_of tag.0 (own.0 ∷ []) }
+{
+    own.0 == tag.0
+}
+
+/// The same of a type with this tag number.
+pub(crate) fn is_left_out_by(
+    own: Tag,
+    octets: &[u8],
+    read: ParseResult<'_, Header<'_>, Error>,
+) -> bool
+    ensures { (rule : Rule) (refuses : Breach → Error)
+        → HeaderGives rule (refusal_of refuses) octets.now (seen read.entry)
+        → IsTrue result ↔ BeginsApart rule (among (own.0 ∷ [])) octets.now }
+{
+    match read {
+        Ok((_, header)) => !has_number_of(own, header.tag()),
+        Err(_) => octets.is_empty(),
+    }
+}

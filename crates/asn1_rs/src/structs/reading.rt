@@ -13,7 +13,7 @@ ghost use Rattle.asn1_rs.specs.Structs.Data.{AnswersAlso, AnswersField, struct_t
 ghost use Rattle.asn1_rs.specs.Structs.Reading.{IsLawfulNumbered, NumberedGrammar, lawful_numbered, lawful_under, numbered_of, required_field};
 ghost use Rattle.asn1_rs.specs.Traits.{BerGives, DerGives, PassesAll};
 
-use crate::asn1_types::tagged::TagMark;
+use crate::asn1_types::tagged::{Implicit, TagMark};
 use crate::choices::ChoiceKind;
 use crate::kinds::collections::{SequenceKind, SetKind};
 use crate::kinds::fields::FieldsKind;
@@ -100,7 +100,7 @@ impl FieldsByLaws for SequenceKind {}
 
 impl<M> FieldsByLaws for SetKind<M> {}
 
-impl<M> FieldsByLaws for TagMark<M> {}
+impl FieldsByLaws for TagMark<Implicit> {}
 
 impl FieldsByLaws for ChoiceKind {}
 

@@ -74,6 +74,12 @@ pub both_answer : {S R : Type 0} (rules : EncodingRules) (F : FieldGrammar S) (G
 both_answer rules F G f =
     row_answers rules F G f (AnswersField rules F) (AnswersRow rules G) (λ o a g. g) (λ o a g. g)
 
+-- What is answered of a required field hangs on no tag number.
+pub answers_untold : {S : Type 0} (rules : EncodingRules) (G : ItemGrammar S) (numbers : Numbers) (octets : List ℕ)
+    (answer : Result (List ℕ × S) (Refusal Error)) → AnswersField rules (item_field numbers G) octets answer →
+    AnswersField rules (item_field any_number G) octets answer
+answers_untold rules G numbers octets answer a = record { exact = a.exact; no_memory = a.no_memory }
+
 module _ {S : Type 0} (rules : EncodingRules) (G : ItemGrammar S) (numbers : Numbers)
     (LeftOut : EncodingRules → List ℕ → Type 0) where
   -- None with all octets is the answer of an optional field that is told to be left out.

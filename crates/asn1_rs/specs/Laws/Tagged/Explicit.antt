@@ -214,7 +214,7 @@ module _ {S T V : Type 0} (class number : ℕ) (inner : T → S) (value : S → 
 -- Reading.
 
 -- what tells of refused memory, told as an error
-memory_told : {E : Type 0} (from : Error → E → Type 0) (r : Refusal E) (e f : E) → r ≡ refused f →
+pub memory_told : {E : Type 0} (from : Error → E → Type 0) (r : Refusal E) (e f : E) → r ≡ refused f →
     FlattenedTo (λ x y. y ≡ x) from r e → from errors.OutOfMemory f → from errors.OutOfMemory e
 memory_told from (refused x) e f s t m = let u : e ≡ f = cc in subst (from errors.OutOfMemory) (sym u) m
 memory_told from (cut n) e f s t m = cc

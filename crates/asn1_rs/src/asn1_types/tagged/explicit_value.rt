@@ -93,7 +93,7 @@ impl<T: ToDer, E, const CLASS: u8, const TAG: u32> ToDer
 }
 
 /// Refuses an element that has another tag number, is primitive, or has another class, in this order.
-fn assert_tagged(class: u8, number: u32, any: &Any<'_>) -> Result<(), Error>
+pub(crate) fn assert_tagged(class: u8, number: u32, any: &Any<'_>) -> Result<(), Error>
     ensures { tag_checks class number (parts_of any.now) result }
 {
     any.assert_number(Tag(number))?;
@@ -102,7 +102,7 @@ fn assert_tagged(class: u8, number: u32, any: &Any<'_>) -> Result<(), Error>
 }
 
 /// The value that a reader's answer tells, without what follows it.
-fn inner_value<'a, T: Drop, E: From<Error>>(answer: ParseResult<'a, T, E>) -> Result<T, E>
+pub(crate) fn inner_value<'a, T: Drop, E: From<Error>>(answer: ParseResult<'a, T, E>) -> Result<T, E>
     ensures { InnerTakes E.from_gives (seen answer.entry) result }
 {
     match answer {

@@ -2,14 +2,14 @@
 
 pub mod builder;
 mod explicit_parser;
-mod explicit_value;
+pub(crate) mod explicit_value;
 pub mod helpers;
 pub(crate) mod implicit_parser;
 mod implicit_value;
 pub mod optional;
 pub mod parser;
 mod parser_writing;
-mod whole_contents;
+pub(crate) mod whole_contents;
 
 ghost use Rattle.std.specs.Prelude.{◌≡◌, ◌<◌, ◌∷◌, []};
 ghost use Rattle.std.proofs.Common.{lit<};
