@@ -102,7 +102,9 @@ pub(crate) fn assert_tagged(class: u8, number: u32, any: &Any<'_>) -> Result<(),
 }
 
 /// The value that a reader's answer tells, without what follows it.
-pub(crate) fn inner_value<'a, T: Drop, E: From<Error>>(answer: ParseResult<'a, T, E>) -> Result<T, E>
+pub(crate) fn inner_value<'a, T: Drop, E: From<Error>>(
+    answer: ParseResult<'a, T, E>,
+) -> Result<T, E>
     ensures { InnerTakes E.from_gives (seen answer.entry) result }
 {
     match answer {
