@@ -1,7 +1,7 @@
 //! Choices: types whose values are of one of several types, which differ in the class and the tag number of their
 //! elements (X.680 29). From what its author says once a choice has readers by both rules, writers, and the laws of
 //! items. So it may be an item of lists, or stand under an explicit tag. With [`LawfulType`] and [`ToldByNumber`] it is
-//! a field of structs. Under an implicit tag it has no laws: X.680 31.2.7 has such a tag explicit.
+//! a field of structs, alone or under such a tag. Under an implicit tag it has no laws: X.680 31.2.7 has that explicit.
 //!
 //! [`LawfulType`]: crate::LawfulType
 //! [`ToldByNumber`]: crate::ToldByNumber
