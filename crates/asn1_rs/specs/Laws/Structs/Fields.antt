@@ -92,6 +92,22 @@ apart_leaves_out rule n octets (inr (m, begins, none)) = inr (record {
   other = λ same. is_the_only_one n m none (sym begins.number_is ∙ same);
 })
 
+module _ {S : Type 0} (rules : EncodingRules) (G : ItemGrammar S) (numbers : Numbers)
+    (LeftOut : EncodingRules → List ℕ → Type 0) where
+  nothing_held : (octets : List ℕ) → (LeftOut rules octets → ⊥) →
+      ((v : G.Value) (rest : List ℕ) → Front (words_by rules G) octets v rest → ⊥) →
+      (v : Option G.Value) (rest : List ℕ) → OptionTakes (LeftOut rules) (words_by rules G) octets v rest → ⊥
+  nothing_held octets stays none None rest t = stays t.0
+  nothing_held octets stays none (Some v) rest t = none v rest t.1
+
+  -- Where an optional field is there, its answer is that of the required one, in Some.
+  pub held_reads : (octets : List ℕ) (its : Result (List ℕ × S) (Refusal Error)) → (LeftOut rules octets → ⊥) →
+      ReadsField rules (item_field numbers G) octets its →
+      ReadsField rules (optional_field numbers LeftOut G) octets (in_some its)
+  held_reads octets (Ok x) stays f = (stays, f)
+  held_reads octets (Err r) stays (inl m) = inl m
+  held_reads octets (Err r) stays (inr none) = inr (nothing_held octets stays none)
+
 module _ {S : Type 0} (G : ItemGrammar S) (l : IsLawfulItem G) where
   -- The words of a lawful type by either rules.
 
@@ -294,19 +310,6 @@ module _ {S : Type 0} (G : ItemGrammar S) (l : IsLawfulItem G) where
     ]
 
     module _ (numbers : Numbers) (LeftOut : EncodingRules → List ℕ → Type 0) where
-      option_nothing : (octets : List ℕ) → (LeftOut rules octets → ⊥) →
-          ((v : G.Value) (rest : List ℕ) → Front (words_by rules G) octets v rest → ⊥) →
-          (v : Option G.Value) (rest : List ℕ) → OptionTakes (LeftOut rules) (words_by rules G) octets v rest → ⊥
-      option_nothing octets stays none None rest t = stays t.0
-      option_nothing octets stays none (Some v) rest t = none v rest t.1
-
-      held_option : (octets : List ℕ) (its : Result (List ℕ × S) (Refusal Error)) → (LeftOut rules octets → ⊥) →
-          ReadsField rules (item_field numbers G) octets its →
-          ReadsField rules (optional_field numbers LeftOut G) octets (in_some its)
-      held_option octets (Ok x) stays f = (stays, f)
-      held_option octets (Err r) stays (inl m) = inl m
-      held_option octets (Err r) stays (inr none) = inr (option_nothing octets stays none)
-
       -- And the reader of options over it one of its optional field.
       pub optional_reads : (octets : List ℕ) (answer : Result (List ℕ × Option S) (Refusal Error)) → IsOctets octets →
           OptionGives (LeftOut rules) reads octets answer →
@@ -315,7 +318,7 @@ module _ {S : Type 0} (G : ItemGrammar S) (l : IsLawfulItem G) where
           subst (ReadsField rules (optional_field numbers LeftOut G) octets) (sym e) (out, refl)
       optional_reads octets answer k (inr (stays, (its, g, e))) =
           subst (ReadsField rules (optional_field numbers LeftOut G) octets) (sym e)
-          (held_option octets its stays (item_reads numbers octets its k g))
+          (held_reads rules G numbers LeftOut octets its stays (item_reads numbers octets its k g))
 
 -- Headers at the front.
 

@@ -7,7 +7,7 @@ use Rattle.x690.specs.Identifiers.{IsCutIdentifier}
 use Rattle.asn1_headers.specs.declared.error.Err.{Err as Refusal}
 use Rattle.asn1_headers.specs.declared.error.Error.{Error}
 use Rattle.asn1_headers.specs.declared.error.Error.TheVariants as errors
-use Rattle.asn1_headers.specs.Answers.{Exactly, Front, IsOther, TellsMemory}
+use Rattle.asn1_headers.specs.Answers.{Exactly, IsOther, TellsMemory}
 use Rattle.asn1_headers.specs.Error.{HeldIn}
 use Rattle.asn1_headers.specs.Header.Reading.{der_breach, ber_breach}
 use Rattle.x690.specs.Elements.{IsDerElement}
@@ -27,12 +27,12 @@ use Rattle.asn1_headers.specs.Ber.{max_depth, EndsWithin}
 use Rattle.x690.specs.Nested.{IsElement, ElementFault}
 use Rattle.asn1_rs.specs.Optional.{IsAtEnd, OptionGives, in_some}
 use Rattle.asn1_rs.specs.Traits.{BerGives, DerGives, PassesAll}
-use Rattle.asn1_rs.specs.Structs.{EncodingRules, by_der, by_ber, any_number, left_out_at_end, words_by, IsCutBy, FieldGrammar, RowGrammar}
-use Rattle.asn1_rs.specs.Structs.{among, OptionTakes, ReadsField}
+use Rattle.asn1_rs.specs.Structs.{EncodingRules, by_der, by_ber, among, any_number, left_out_at_end, words_by, IsCutBy}
+use Rattle.asn1_rs.specs.Structs.{FieldGrammar, RowGrammar}
 use Rattle.asn1_rs.specs.Structs.{Numbers, item_field, optional_field, empty_row, row_of, EndGives, RowGives, StructBody, StructGives}
 use Rattle.asn1_rs.specs.Structs.Data.{AnswersField, AnswersRow, AnswersAlso, LawfulStructOf, grammar_of_struct}
 use Rattle.asn1_rs.specs.Structs.Data.{field_of, struct_type}
-use Rattle.asn1_rs.specs.Laws.Structs.Fields.{IsLawfulField, item_reads, optional_reads, optional_no_memory}
+use Rattle.asn1_rs.specs.Laws.Structs.Fields.{IsLawfulField, held_reads, item_reads, optional_reads, optional_no_memory}
 use Rattle.asn1_rs.specs.Laws.Structs.Rows.{row_reads, row_no_memory, or_neither, end_reads, end_no_memory}
 use Rattle.asn1_rs.specs.Laws.Structs.Structs.{struct_takes, struct_no_memory}
 
@@ -87,26 +87,13 @@ module _ {S : Type 0} (rules : EncodingRules) (G : ItemGrammar S) (numbers : Num
       AnswersField rules (optional_field numbers LeftOut G) octets (Ok (octets, None))
   none_answers octets told tells is = record { exact = λ k. (tells.0 is, refl); no_memory = λ none. tt }
 
-  nothing_held : (octets : List ℕ) → (LeftOut rules octets → ⊥) →
-      ((v : G.Value) (rest : List ℕ) → Front (words_by rules G) octets v rest → ⊥) →
-      (v : Option G.Value) (rest : List ℕ) → OptionTakes (LeftOut rules) (words_by rules G) octets v rest → ⊥
-  nothing_held octets stays none None rest t = stays t.0
-  nothing_held octets stays none (Some v) rest t = none v rest t.1
-
-  held_reads : (octets : List ℕ) (its : Result (List ℕ × S) (Refusal Error)) → (LeftOut rules octets → ⊥) →
-      ReadsField rules (item_field numbers G) octets its →
-      ReadsField rules (optional_field numbers LeftOut G) octets (in_some its)
-  held_reads octets (Ok x) stays f = (stays, f)
-  held_reads octets (Err r) stays (inl m) = inl m
-  held_reads octets (Err r) stays (inr none) = inr (nothing_held octets stays none)
-
   held_answer : (octets : List ℕ) → (LeftOut rules octets → ⊥) →
       (its : Result (List ℕ × S) (Refusal Error)) → AnswersField rules (item_field numbers G) octets its →
       AnswersField rules (optional_field numbers LeftOut G) octets (in_some its)
   held_answer octets stays (Ok x) a =
-      record { exact = λ k. held_reads octets (Ok x) stays (a.exact k); no_memory = λ none. tt }
+      record { exact = λ k. held_reads rules G numbers LeftOut octets (Ok x) stays (a.exact k); no_memory = λ none. tt }
   held_answer octets stays (Err r) a =
-      record { exact = λ k. held_reads octets (Err r) stays (a.exact k); no_memory = a.no_memory }
+      record { exact = λ k. held_reads rules G numbers LeftOut octets (Err r) stays (a.exact k); no_memory = a.no_memory }
 
   -- And else the answer of the required field, in Some.
   pub held_answers : (octets : List ℕ) (told : Bool) → IsTrue told ↔ LeftOut rules octets → told ≡ false →
