@@ -2,8 +2,9 @@
 //!
 //! What reads a row passes the impls of each of its fields, and a check takes longer with each impl. So this trait has
 //! no supertrait and is a field's only bound. A leaf type of the library has an impl without bounds for each of the
-//! rules, in `leaves_by_der` and `leaves_by_ber`. What has a kind has it by that ([`ReadsTypeBy`]): structs by
-//! [`ReadsFields`] alone, all others by the laws of their readers.
+//! rules, in `leaves_by_der` and `leaves_by_ber`. A value under an explicit tag has it by the type of the value
+//! ([`tags`](crate::structs::tags)). All else has it by its kind ([`ReadsTypeBy`]): structs by [`ReadsFields`] alone,
+//! lists, sets, implicit tags and choices by the laws of their readers.
 ghost use Rattle.std.specs.Prelude.{◌≡◌, ◌↔◌, ℕ, List, Result, IsTrue, refl};
 ghost use Rattle.asn1_headers.specs.Answers.{seen};
 ghost use Rattle.asn1_headers.specs.declared.error.Err.{Err as Refusal};
@@ -30,9 +31,10 @@ use std::alloc::Global;
 
 /// A type that is read by the parser `P` as a field of a struct, or as an `Option` that is one.
 ///
-/// The leaf types of the library have it. So have types with a kind: structs with [`ReadsFields`] or
-/// [`ReadsFieldsByBer`], and lists, sets, values under tags, choices and holders that have [`LawfulDer`] or
-/// [`LawfulBer`], and [`ToldByNumber`]. A leaf type of an author has it by [`LeafField`].
+/// The leaf types of the library have it, structs with [`ReadsFields`] or [`ReadsFieldsByBer`], and values under an
+/// explicit tag that have [`ReadsItem`](crate::ReadsItem). So have lists, sets, values under implicit tags, choices and
+/// holders that have [`LawfulDer`] or [`LawfulBer`], and [`ToldByNumber`]. A leaf type of an author has it by
+/// [`LeafField`].
 pub trait ReadsType<'a, P: ReadsBy>: Sized {
     /// Its grammar, with the tag numbers of its elements.
     ghost numbered: { NumberedGrammar Self };
