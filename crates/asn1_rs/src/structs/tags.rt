@@ -1,9 +1,9 @@
 //! Values under an explicit tag as fields: the type of the value has [`ReadsItem`], and nothing more is asked of it.
-ghost use Rattle.std.specs.Prelude.{◌≡◌};
+ghost use Rattle.std.specs.Prelude.{◌≡◌, ◌↔◌, ◌∷◌, [], IsTrue};
 ghost use Rattle.asn1_headers.specs.Answers.{seen};
 ghost use Rattle.asn1_rs.specs.Any.{parts_of};
 ghost use Rattle.asn1_rs.specs.Laws.Structs.Tags.{explicit_lawful_numbered, explicit_numbered};
-ghost use Rattle.asn1_rs.specs.Structs.{by_ber, by_der};
+ghost use Rattle.asn1_rs.specs.Structs.{by_ber, by_der, left_out_among};
 ghost use Rattle.asn1_rs.specs.Structs.Data.{AnswersField};
 ghost use Rattle.asn1_rs.specs.Structs.Reading.{untold};
 ghost use Rattle.asn1_rs.specs.Tagged.Explicit.{ExplicitGives, ExplicitReads, ExplicitTakes};
@@ -18,11 +18,27 @@ use crate::der::element_by_der;
 use crate::structs::items::ReadsItem;
 use crate::structs::numbers::is_left_out_by;
 use crate::structs::reading::ReadsType;
-use crate::traits::Tagged;
+use crate::traits::{Tagged, converted};
 use asn1_headers::content::{BerParser, DerParser};
 use asn1_headers::error::{Err, Error, ParseResult};
 use asn1_headers::header::reading::{header_by_ber, header_by_der};
 use std::alloc::Global;
+
+/// Whether an optional field of a type with one tag number is left out of the octets, by DER.
+#[inline(always)]
+fn left_out_by_der<T: Tagged>(octets: &[u8]) -> bool
+    ensures { IsTrue result ↔ left_out_among ((T.TAG).0 ∷ []) by_der octets.now }
+{
+    is_left_out_by(T::TAG, octets, header_by_der(octets))
+}
+
+/// The same by BER.
+#[inline(always)]
+fn left_out_by_ber<T: Tagged>(octets: &[u8]) -> bool
+    ensures { IsTrue result ↔ left_out_among ((T.TAG).0 ∷ []) by_ber octets.now }
+{
+    is_left_out_by(T::TAG, octets, header_by_ber(octets))
+}
 
 /// The value that the contents octets of an element under the tag are, by DER.
 fn inner_by_der<'a, T: ReadsItem<'a, DerParser> + Drop>(
@@ -52,7 +68,7 @@ fn tagged_by_der<'a, T: ReadsItem<'a, DerParser> + Drop, const CLASS: u8, const 
     ensures gives { ExplicitGives CLASS TAG (λ t. t.inner)
         T.item_gives (λ x y. y ≡ x) octets.now (seen result) }
 {
-    let (rest, any) = element_by_der(octets)?;
+    let (rest, any) = converted(element_by_der(octets))?;
     match inner_by_der::<T>(alloc, CLASS, TAG, &any) {
         Ok(inner) => Ok((rest, TaggedValue::explicit(inner))),
         Err(e) => Err(e),
@@ -69,7 +85,9 @@ fn tag_of_element<'a, T: ReadsItem<'a, BerParser> + Drop, const CLASS: u8, const
     ensures gives { ExplicitTakes CLASS TAG (λ t. t.inner)
         T.item_gives (λ x y. y ≡ x) (parts_of any.now) result }
 {
-    assert_tagged(CLASS, TAG, any)?;
+    if let Err(e) = assert_tagged(CLASS, TAG, any) {
+        return Err(e);
+    }
     match inner_value(T::read_item(alloc, any.content)) {
         Ok(inner) => Ok(TaggedValue::explicit(inner)),
         Err(e) => Err(e),
@@ -90,7 +108,7 @@ fn tagged_by_ber<'a, T: ReadsItem<'a, BerParser> + Drop, const CLASS: u8, const 
         (λ t. t.inner) T.item_gives (λ x y. y ≡ x)))
         (λ x y. y ≡ x) octets.now (seen result) }
 {
-    let (rest, any) = element_by_ber(octets)?;
+    let (rest, any) = converted(element_by_ber(octets))?;
     match tag_of_element(alloc, &any) {
         Ok(value) => Ok((rest, value)),
         Err(e) => Err(Err::Error(e)),
@@ -108,7 +126,7 @@ where
 
     #[inline(always)]
     fn is_left_out(octets: &'a [u8]) -> bool {
-        is_left_out_by(Self::TAG, octets, header_by_der(octets))
+        left_out_by_der::<Self>(octets)
     }
 
     #[inline(always)]
@@ -131,7 +149,7 @@ where
 
     #[inline(always)]
     fn is_left_out(octets: &'a [u8]) -> bool {
-        is_left_out_by(Self::TAG, octets, header_by_ber(octets))
+        left_out_by_ber::<Self>(octets)
     }
 
     #[inline(always)]

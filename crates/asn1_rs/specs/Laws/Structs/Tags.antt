@@ -78,12 +78,12 @@ module _ {T W : Type 0} (class number : ℕ) (inner : W → T) (G : ItemGrammar 
   whole_word octets x k (Err r, g, none) = absurd none
 
   no_whole : IsLawfulItem G → (octets : List ℕ) (r : Refusal Error) → IsOctets octets →
-      ReadsWhole DerReads (λ x y. y ≡ x) octets (Err r) →
-      TellsMemory G.allocates (λ x y. y ≡ x) r ⊎ ((v : G.Value) → G.Der octets v → ⊥)
+      ReadsWhole DerReads (λ (x y : Error). y ≡ x) octets (Err r) →
+      TellsMemory G.allocates (λ (x y : Error). y ≡ x) r ⊎ ((v : G.Value) → G.Der octets v → ⊥)
   no_whole l octets r k (Ok y, g, (some, told)) =
       inr (λ v w. some (none_left G.Der l.der_one octets y.0 (G.value y.1) v (g.exact k) w))
   no_whole l octets r k (Err own, g, is) = elim (g.exact k) [
-    | inl m ↦ inl (subst (TellsMemory G.allocates (λ x y. y ≡ x)) (sym is) m)
+    | inl m ↦ inl (subst (TellsMemory G.allocates (λ (x y : Error). y ≡ x)) (sym is) m)
     | inr none ↦ inr (λ v w. none v [] (record { word = octets; fits = w; is = sym (append-nil octets) }))
   ]
 

@@ -1,0 +1,11 @@
+use Rattle.std.proofs.Common.{subst, [], ◌∷◌}
+use Rattle.std.specs.Prelude.{◌↔◌, IsTrue}
+use Rattle.x690.specs.Rules.{der_rule}
+use Rattle.asn1_headers.specs.declared.tag.Tag.{Tag}
+use Rattle.asn1_headers.specs.Header.Reading.{der_breach}
+use Rattle.asn1_rs.specs.Structs.{among, BeginsApart}
+use Rattle.asn1_rs.proofs.structs.tags.left_out_by_der.Goals as goal
+
+pub returns : goal.returns
+returns g c = subst (λ (t : Tag). IsTrue c.is_left_out_by.result ↔ BeginsApart der_rule (among (t.0 ∷ []))
+    c.args.octets.now) c.TAG.ensures (c.is_left_out_by.ensures der_rule der_breach c.header_by_der.ensures)
