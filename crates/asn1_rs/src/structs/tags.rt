@@ -26,7 +26,7 @@ use std::alloc::Global;
 
 /// Whether an optional field of a type with one tag number is left out of the octets, by DER.
 #[inline(always)]
-fn left_out_by_der<T: Tagged>(octets: &[u8]) -> bool
+fn tag_left_out_by_der<T: Tagged>(octets: &[u8]) -> bool
     ensures { IsTrue result ↔ left_out_among ((T.TAG).0 ∷ []) by_der octets.now }
 {
     is_left_out_by(T::TAG, octets, header_by_der(octets))
@@ -34,7 +34,7 @@ fn left_out_by_der<T: Tagged>(octets: &[u8]) -> bool
 
 /// The same by BER.
 #[inline(always)]
-fn left_out_by_ber<T: Tagged>(octets: &[u8]) -> bool
+fn tag_left_out_by_ber<T: Tagged>(octets: &[u8]) -> bool
     ensures { IsTrue result ↔ left_out_among ((T.TAG).0 ∷ []) by_ber octets.now }
 {
     is_left_out_by(T::TAG, octets, header_by_ber(octets))
@@ -126,7 +126,7 @@ where
 
     #[inline(always)]
     fn is_left_out(octets: &'a [u8]) -> bool {
-        left_out_by_der::<Self>(octets)
+        tag_left_out_by_der::<Self>(octets)
     }
 
     #[inline(always)]
@@ -149,7 +149,7 @@ where
 
     #[inline(always)]
     fn is_left_out(octets: &'a [u8]) -> bool {
-        left_out_by_ber::<Self>(octets)
+        tag_left_out_by_ber::<Self>(octets)
     }
 
     #[inline(always)]

@@ -4,7 +4,7 @@ use Rattle.x690.specs.Rules.{ber_rule}
 use Rattle.asn1_headers.specs.declared.tag.Tag.{Tag}
 use Rattle.asn1_headers.specs.Header.Reading.{ber_breach}
 use Rattle.asn1_rs.specs.Structs.{among, BeginsApart}
-use Rattle.asn1_rs.proofs.structs.tags.left_out_by_ber.Goals as goal
+use Rattle.asn1_rs.proofs.structs.tags.tag_left_out_by_ber.Goals as goal
 
 pub returns : goal.returns
 returns g c = subst (λ (t : Tag). IsTrue c.is_left_out_by.result ↔ BeginsApart ber_rule (among (t.0 ∷ []))
