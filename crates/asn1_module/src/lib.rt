@@ -1,6 +1,7 @@
 //! The text of ASN.1 modules (ITU-T X.680), read to the tables of `asn1_schema`.
 #![tactic(auto)]
 
+mod components;
 mod defaults;
 mod definitions;
 pub mod mistake;

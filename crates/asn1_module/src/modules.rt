@@ -3,6 +3,7 @@ ghost use Rattle.std.specs.Prelude.{◌≡◌, ◌≢◌, true, false, IfSome, I
 ghost use Rattle.asn1_module.specs.Mistakes.{StandsWithin};
 ghost use Rattle.asn1_module.specs.Modules.{IsTypeNamed, LacksType};
 
+use crate::components::Rows;
 use crate::mistake::{Mistake, ModuleError, Place};
 use crate::places::Places;
 use crate::reader::Reader;
@@ -108,11 +109,13 @@ fn named_types<'t>(
 /// Puts the types of what the texts say into a table.
 fn make_types<'t>(
     alloc: Global,
-    syntax: &Syntax<'t>,
+    syntax: &mut Syntax<'t>,
     schema: &mut Schema<'t>,
     notes: &mut Vec<Note>,
 ) -> Result<Modules<'t>, ModuleError> {
     let scopes = Scopes::new(alloc, syntax)?;
+    Rows::new(alloc, &scopes, syntax)?.make_all(syntax)?;
+    let syntax = &*syntax;
     let texts = Texts {
         syntax,
         scopes: &scopes,
@@ -132,8 +135,8 @@ fn read_texts<'t>(
     schema: &mut Schema<'t>,
     notes: &mut Vec<Note>,
 ) -> Result<Modules<'t>, ModuleError> {
-    let syntax = read_syntax(alloc, texts)?;
-    make_types(alloc, &syntax, schema, notes)
+    let mut syntax = read_syntax(alloc, texts)?;
+    make_types(alloc, &mut syntax, schema, notes)
 }
 
 /// Reads modules and puts their types into a table. Names are resolved among all of them.

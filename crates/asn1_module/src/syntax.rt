@@ -22,6 +22,17 @@ pub enum TagMode {
     Implicit,
 }
 
+/// The components of a sequence or a set, or the arms of a choice.
+#[derive(Debug, Clone, Copy)]
+pub struct Row {
+    /// Which they are.
+    pub span: Span,
+    /// Whether unknown elements may follow: there is an extension mark.
+    pub is_open: bool,
+    /// Whether they get tags by their order (X.680 25.2).
+    pub is_automatic: bool,
+}
+
 /// A type, as it is written.
 #[derive(Debug, Clone, Copy)]
 pub enum TypeSyntax<'t> {
@@ -49,12 +60,12 @@ pub enum TypeSyntax<'t> {
     GeneralizedTime,
     /// ANY, or an open type.
     Any,
-    /// SEQUENCE: components, and whether there is an extension mark.
-    Sequence(Span, bool),
-    /// SET: components, and whether there is an extension mark.
-    Set(Span, bool),
-    /// CHOICE: arms, and whether there is an extension mark.
-    Choice(Span, bool),
+    /// SEQUENCE: components.
+    Sequence(Row),
+    /// SET: components.
+    Set(Row),
+    /// CHOICE: arms.
+    Choice(Row),
     /// SEQUENCE OF.
     SequenceOf(usize),
     /// SET OF.
@@ -142,6 +153,8 @@ pub struct Component<'t> {
     pub of: usize,
     /// Whether it may be left out.
     pub appearance: Appearance,
+    /// Whether it stands between extension marks.
+    pub is_addition: bool,
 }
 
 /// A named or listed number, or a named bit.

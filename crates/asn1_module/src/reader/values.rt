@@ -2,6 +2,7 @@
 
 use crate::mistake::{ModuleError, Place, Wrong};
 use crate::reader::Reader;
+use crate::scopes::check_distinct;
 use crate::syntax::{NamedNumber, Span, ValueEntry, ValueSyntax, put_all};
 use crate::tokens::{Token, TokenKind};
 
@@ -171,8 +172,18 @@ impl<'s, 't> Reader<'s, 't> {
             }
             self.expect(",")?;
         }
+        self.check_numbers(&list)?;
         let span = put_all(&mut self.syntax.numbers, &list)?;
         Ok((span, is_open || self.environment.extensible))
+    }
+
+    /// Tells whether named numbers have different names.
+    fn check_numbers(&self, list: &[NamedNumber<'t>]) -> Result<(), ModuleError> {
+        let mut names = Vec::new(self.alloc);
+        for named in list {
+            names.push((named.name, named.place))?;
+        }
+        check_distinct(self.alloc, &names)
     }
 
     /// Reads a named number.
