@@ -4,6 +4,7 @@
 mod components;
 mod defaults;
 mod definitions;
+mod identifiers;
 pub mod mistake;
 pub mod modules;
 mod places;

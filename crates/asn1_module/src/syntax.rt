@@ -108,6 +108,10 @@ pub enum ValueSyntax<'t> {
     Reference(Option<&'t str>, &'t str),
     /// `{}`.
     Empty,
+    /// `{ iso 3 }`: the values of an object identifier's arcs, or one name.
+    Arcs(Span),
+    /// `{ a, b }`: names of bits.
+    Names(Span),
     /// Characters, with their quotation marks.
     Text(&'t [u8]),
     /// `'01'B`.
@@ -123,6 +127,8 @@ pub enum ValueSyntax<'t> {
 pub struct ValueEntry<'t> {
     /// The module in which it stands.
     pub module: usize,
+    /// The name of its type, where it is assigned and its type is a name alone.
+    pub governor: &'t str,
     /// Where it stands.
     pub place: Place,
     /// What it is.
@@ -280,6 +286,8 @@ pub struct Syntax<'t> {
     pub types: Vec<TypeEntry<'t>>,
     /// The values.
     pub values: Vec<ValueEntry<'t>>,
+    /// The places of the values that stand in braces.
+    pub arcs: Vec<usize>,
     /// The components and arms.
     pub components: Vec<Component<'t>>,
     /// The named numbers and bits.
@@ -324,6 +332,7 @@ impl<'t> Syntax<'t> {
             assignments: Vec::new(alloc),
             types: Vec::new(alloc),
             values: Vec::new(alloc),
+            arcs: Vec::new(alloc),
             components: Vec::new(alloc),
             numbers: Vec::new(alloc),
             ranges: Vec::new(alloc),
