@@ -1,0 +1,42 @@
+-- Bits in octets.
+use Rattle.std.proofs.Common.{◌≡◌, ◌∙◌, ap, sym, refl, ℕ, zero, suc, ◌+◌, ◌-◌, ◌*◌, ◌/◌, ◌^◌, ◌<◌, ◌≤◌, Bool, true, false, List, [], ◌∷◌, ◌++◌, length, length-drop, drop, take, get_or, append-nil, arith}
+use Rattle.std.proofs.Math.Nat.{pow-succ'}
+use Rattle.std.proofs.Math.Pow.{pow_mono}
+use Rattle.std.proofs.Math.Seq.{take-append-add}
+use Rattle.x690.specs.Identifiers.{bit}
+use Rattle.asn1_json.specs.Leaves.{number_of_bits, octets_from, octets_of_bits}
+
+-- one bit more, at the low end
+pub bit_more : (k : ℕ) (bs : List Bool) → number_of_bits (suc k) bs ≡ number_of_bits k bs * 2 + bit (get_or bs k false)
+bit_more zero [] = refl
+bit_more zero (true ∷ bs) = refl
+bit_more zero (false ∷ bs) = refl
+bit_more (suc k) [] = refl
+bit_more (suc k) (true ∷ bs) =
+    let more = bit_more k bs in
+    let twice = pow-succ' 2 k in
+    omega (arith, more, twice)
+bit_more (suc k) (false ∷ bs) = let more = bit_more k bs in omega (arith, more)
+
+bits_below : (k : ℕ) (bs : List Bool) → number_of_bits k bs < 2 ^ k
+bits_below zero bs = omega arith
+bits_below (suc k) [] = let below = bits_below k [] in let twice = pow-succ' 2 k in grind arith
+bits_below (suc k) (true ∷ bs) = let below = bits_below k bs in let twice = pow-succ' 2 k in omega (arith, below, twice)
+bits_below (suc k) (false ∷ bs) = let below = bits_below k bs in let twice = pow-succ' 2 k in omega (arith, below, twice)
+
+-- seven bits at most say less than 128
+pub few_bits : (k : ℕ) (bs : List Bool) → k < 8 → number_of_bits k bs < 128
+few_bits k bs few =
+    let most : 2 ^ k ≤ 2 ^ 7 = pow_mono {k} {7} (omega arith) in
+    let below = bits_below k bs in
+    omega (arith, most, below)
+
+-- the octet of the first bits, and those of the others
+pub octet_more : (bs : List Bool) → 0 < length bs → octets_of_bits bs ≡ number_of_bits 8 bs ∷ octets_of_bits (drop 8 bs)
+octet_more bs some =
+    let count : (length bs + 7) / 8 ≡ suc ((length (drop 8 bs) + 7) / 8) = omega (arith, length-drop 8 bs) in
+    ap (λ (n : ℕ). octets_from n bs) count
+
+-- what is behind the bits that were there
+pub used_bits : (old new all : List Bool) (n : ℕ) → all ≡ old ++ new → take (length old + n) all ≡ old ++ take n new
+used_bits old new all n is = ap (λ (bs : List Bool). take (length old + n) bs) is ∙ take-append-add old new n
