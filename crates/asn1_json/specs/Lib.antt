@@ -9,3 +9,4 @@ pub mod Made
 pub mod DenotedLeaves
 pub mod Denotes
 pub mod MadeFrom
+pub mod Trees

@@ -4,6 +4,7 @@
 pub mod bits;
 pub mod error;
 pub mod front;
+pub mod laws;
 pub mod leaves;
 pub mod out;
 pub mod reading;

@@ -27,7 +27,7 @@ use json::{Error, Scratch, Value};
 use leaf::By;
 use place::{octet_of, octet_of_fault, path_of};
 use std::alloc::{AllocError, AllocFailed, Global};
-use std::str;
+use std::{fmt, str};
 use trail::{Fault, Trail};
 use values::read_value;
 
@@ -67,6 +67,31 @@ impl From<AllocError> for FromJsonError {
         FromJsonError::OutOfMemory
     }
 }
+
+impl fmt::Display for JsonRefusal {
+    fn fmt<W: fmt::Write>(&self, f: &mut fmt::Formatter<W>) -> fmt::Result {
+        let octet = self.octet;
+        write!(f, "octet {octet}")?;
+        if let Ok(path) = str::from_utf8(&self.path) {
+            if !path.is_empty() {
+                write!(f, ", {path}")?;
+            }
+        }
+        let reason = self.reason;
+        write!(f, ": {reason}")
+    }
+}
+
+impl fmt::Display for FromJsonError {
+    fn fmt<W: fmt::Write>(&self, f: &mut fmt::Formatter<W>) -> fmt::Result {
+        match self {
+            FromJsonError::OutOfMemory => f.write_str("out of memory"),
+            FromJsonError::Refused(refusal) => write!(f, "{refusal}"),
+        }
+    }
+}
+
+impl std::error::Error for FromJsonError {}
 
 /// The refusal of a text at an octet.
 fn text_refused(alloc: Global, of: usize, octet: usize, reason: Reason) -> FromJsonError {
