@@ -1,7 +1,8 @@
 -- What the pieces of a leaf join to.
-use Rattle.std.proofs.Common.{◌≡◌, ◌∙◌, ap, sym, refl, ℕ, suc, Bool, true, false, List, [], ◌∷◌, ◌++◌, map, length}
-use Rattle.asn1_schema.specs.Values.{Leaf, Value, leaf, bits, octets, text, time, joined}
-use Rattle.asn1_schema.specs.Tape.{Mark, leaf_mark, pieces_mark, pieces_end_mark, Sort, of_octets, of_text, of_time, string}
+use Rattle.std.proofs.Common.{◌≡◌, ◌∙◌, ap, refl, ℕ, suc, Bool, true, false, List, [], ◌∷◌, ◌++◌, map, length, arith}
+use Rattle.asn1_schema.specs.Values.{Leaf, leaf, bits, octets, text, time, joined}
+use Rattle.asn1_schema.specs.declared.tape.Item.{Item}
+use Rattle.asn1_schema.specs.Tape.{Mark, marks, leaf_mark, pieces_mark, pieces_end_mark, Sort, of_octets, of_text, of_time, string}
 use Rattle.asn1_schema.specs.Tape.{Kept, kept_leaf, kept_string, kept_bits, kept_row, kept_chosen, value_of, tape_of}
 use Rattle.asn1_schema.specs.Same.{joined_leaf, all_bits_of}
 use Rattle.asn1_schema.proofs.Signs.{one_leaf}
@@ -44,3 +45,12 @@ leaf_joins (kept_string s o os) l here at v p = let g = ap begins_pieces at in a
 leaf_joins (kept_bits b bs) l here at v p = let g = ap begins_pieces at in absurd (cc)
 leaf_joins (kept_row ks) l here at v p = absurd (cc)
 leaf_joins (kept_chosen arm w) l here at v p = absurd (cc)
+
+-- a value has marks
+pub some_marks : (k : Kept) (xs : List Item) → length xs ≡ 0 → marks xs ≡ tape_of k → ⊥
+some_marks k (x ∷ xs) none at = absurd (omega (arith, none))
+some_marks (kept_leaf l) [] none at = absurd (cc)
+some_marks (kept_string s o os) [] none at = absurd (cc)
+some_marks (kept_bits b bs) [] none at = absurd (cc)
+some_marks (kept_row ks) [] none at = absurd (cc)
+some_marks (kept_chosen arm w) [] none at = absurd (cc)

@@ -1,12 +1,12 @@
 -- What a step leaves of what frames await.
-use Rattle.std.proofs.Common.{◌≡◌, ◌∙◌, ap, sym, refl, subst, ℕ, zero, suc, ◌+◌, ◌*◌, ◌<◌, ◌≤◌, Bool, true, false, List, [], ◌∷◌, ◌++◌, append_assoc, append-nil}
-use Rattle.std.proofs.Common.{length, length-append, reverse, drop, Option, Some, None, nat_lt, codes, arith}
+use Rattle.std.proofs.Common.{◌≡◌, ◌∙◌, ap, sym, refl, subst, ℕ, zero, suc, ◌≤◌, Bool, true, false, List, [], ◌∷◌, ◌++◌, append_assoc}
+use Rattle.std.proofs.Common.{length, reverse, drop, Option, Some, None, nat_lt, codes, arith}
 use Rattle.std.proofs.Common.{◌⊎◌, inl, inr}
 use Rattle.std.proofs.lemmas.Bool.{le-ltb}
 use Rattle.std.proofs.lemmas.List.{reverse-append}
 use Rattle.json.specs.Token.{Token, begin_object, end_object, begin_array, end_array, key}
-use Rattle.asn1_schema.specs.Values.{Leaf, leaf, Value, Values, row, chosen, none, absent, more, bits, joined}
-use Rattle.asn1_schema.specs.Tape.{Mark, leaf_mark, begin_mark, end_mark, absent_mark, arm_mark, arm_end_mark, pieces_mark, string}
+use Rattle.asn1_schema.specs.Values.{Leaf, leaf, Value, Values, row, none, absent, more, bits, joined}
+use Rattle.asn1_schema.specs.Tape.{Mark, end_mark, arm_end_mark, string}
 use Rattle.asn1_schema.specs.Tape.{Kept, KeptRow, kept_leaf, kept_string, kept_bits, kept_row, kept_chosen, kept_none, kept_absent, kept_more}
 use Rattle.asn1_schema.specs.Tape.{value_of, values_of, tape_of, tapes_of}
 use Rattle.asn1_json.specs.declared.walk.Frame.{Frame}
@@ -19,7 +19,7 @@ use Rattle.asn1_json.specs.Leaves.{leaf_tokens}
 use Rattle.asn1_json.specs.Types.{labels_at, resolved}
 use Rattle.asn1_json.specs.Tokens.{Types, tokens_of, tokens_of_items, tokens_of_fields, row_tokens, type_of_arm, name_of_arm, type_of_members}
 use Rattle.asn1_json.specs.Tokens.{type_of_field, type_of_unknown, name_of_field, count_of_fields}
-use Rattle.asn1_json.specs.Walk.{front_of, front_of_mark, items_end, row_marks, Await, Goes, AwaitNot, Steps, weight, steps_left, OpensRow, BeginsField}
+use Rattle.asn1_json.specs.Walk.{front_of, items_end, row_marks, Await, Goes, AwaitNot, weight, OpensRow, BeginsField}
 
 -- Which values have which fronts.
 
@@ -286,13 +286,13 @@ pub field_gone : (types : Types) (at : Option ℕ) (place next : ℕ) (before af
     (old : List Token) → front_of here ≡ fronts.Gone → behind ≡ drop 1 here → after ≡ before ++ frames.Fields at next ∷ [] →
     ((vs : Values) → tokens_of_fields types at next vs ≡ tokens_of_fields types at (suc place) vs) →
     Goes types (frames.Fields at place ∷ reverse before) here (reverse after) behind old old
-field_gone types at place next before after here behind old f cut more same = λ shown w.
+field_gone types at place next before after here behind old f cut pushed same = λ shown w.
     let m = gone_of_front w.0 w.1 here w.2 w.4 f in
     let is : shown ≡ tokens_of_fields types at next (values_of m.0) ++ end_object ∷ w.3 =
     w.5 ∙ ap (λ (ks : KeptRow). tokens_of_fields types at place (values_of ks) ++ end_object ∷ w.3) m.1
     ∙ ap (λ (ts : List Token). ts ++ end_object ∷ w.3) (sym (same (values_of m.0))) in (
       shown,
-      one_more types before after (frames.Fields at next) behind shown more (m.0, w.1, w.2, w.3, cut ∙ m.2, is, w.6),
+      one_more types before after (frames.Fields at next) behind shown pushed (m.0, w.1, w.2, w.3, cut ∙ m.2, is, w.6),
       refl,
     )
 
@@ -307,16 +307,16 @@ pub item_goes : (types : Types) (of : Option ℕ) (are_unknown : Bool) (before a
     (old : List Token) → front_of here ≡ fronts.Value o →
     after ≡ (before ++ frames.Items of are_unknown ∷ []) ++ frames.Value of ∷ [] →
     Goes types (frames.Items of are_unknown ∷ reverse before) here (reverse after) here old old
-item_goes types of are_unknown before after here o old f more = λ shown w.
+item_goes types of are_unknown before after here o old f pushed = λ shown w.
     let m = more_of_front w.0 w.1 here w.2 o w.4 f in
     let inner = tokens_of types of (value_of m.0) in
     let items = tokens_of_items types of (values_of m.1) in
-    let last : List Token = items ++ items_end are_unknown ++ w.3 in
+    let last : List Token = items ++ (items_end are_unknown ++ w.3) in
     let is : shown ≡ inner ++ last =
-    w.5 ∙ ap (λ (ks : KeptRow). tokens_of_items types of (values_of ks) ++ items_end are_unknown ++ w.3) m.2
+    w.5 ∙ ap (λ (ks : KeptRow). tokens_of_items types of (values_of ks) ++ (items_end are_unknown ++ w.3)) m.2
     ∙ append_assoc inner items (items_end are_unknown ++ w.3) in (
       shown,
-      two_more types before after (frames.Items of are_unknown) (frames.Value of) here shown more
+      two_more types before after (frames.Items of are_unknown) (frames.Value of) here shown pushed
           (m.0, row_marks m.1 w.1 w.2, last, m.3, is, (m.1, w.1, w.2, w.3, refl, refl, w.6)),
       refl,
     )
@@ -327,7 +327,7 @@ pub items_end_goes : (types : Types) (of : Option ℕ) (are_unknown : Bool) (fs 
 items_end_goes types of are_unknown fs here behind old new f cut written = λ shown w.
     let m = end_of_front w.0 w.1 here w.2 w.4 f in
     let is : shown ≡ items_end are_unknown ++ w.3 =
-    w.5 ∙ ap (λ (ks : KeptRow). tokens_of_items types of (values_of ks) ++ items_end are_unknown ++ w.3) m.0 in (
+    w.5 ∙ ap (λ (ks : KeptRow). tokens_of_items types of (values_of ks) ++ (items_end are_unknown ++ w.3)) m.0 in (
       w.3,
       subst (λ (ms : List Mark). Await types fs ms w.3) (sym (cut ∙ m.1)) w.6,
       behind_tokens old new (items_end are_unknown) w.3 shown is written,
@@ -337,22 +337,14 @@ pub item_gone : (types : Types) (of : Option ℕ) (are_unknown : Bool) (before a
     (old : List Token) → front_of here ≡ fronts.Gone → behind ≡ drop 1 here →
     after ≡ before ++ frames.Items of are_unknown ∷ [] →
     Goes types (frames.Items of are_unknown ∷ reverse before) here (reverse after) behind old old
-item_gone types of are_unknown before after here behind old f cut more = λ shown w.
+item_gone types of are_unknown before after here behind old f cut pushed = λ shown w.
     let m = gone_of_front w.0 w.1 here w.2 w.4 f in
-    let is : shown ≡ tokens_of_items types of (values_of m.0) ++ items_end are_unknown ++ w.3 =
-    w.5 ∙ ap (λ (ks : KeptRow). tokens_of_items types of (values_of ks) ++ items_end are_unknown ++ w.3) m.1 in (
+    let is : shown ≡ tokens_of_items types of (values_of m.0) ++ (items_end are_unknown ++ w.3) =
+    w.5 ∙ ap (λ (ks : KeptRow). tokens_of_items types of (values_of ks) ++ (items_end are_unknown ++ w.3)) m.1 in (
       shown,
-      one_more types before after (frames.Items of are_unknown) behind shown more (m.0, w.1, w.2, w.3, cut ∙ m.2, is, w.6),
+      one_more types before after (frames.Items of are_unknown) behind shown pushed (m.0, w.1, w.2, w.3, cut ∙ m.2, is, w.6),
       refl,
     )
-
-pub arm_end_goes : (types : Types) (fs : List Frame) (here behind : List Mark) (old new : List Token) →
-    behind ≡ drop 1 here → new ≡ old ++ end_object ∷ [] → Goes types (frames.ArmEnd ∷ fs) here fs behind old new
-arm_end_goes types fs here behind old new cut written = λ shown w. (
-  w.2,
-  subst (λ (ms : List Mark). Await types fs ms w.2) (sym (cut ∙ ap (λ (ms : List Mark). drop 1 ms) w.3)) w.5,
-  behind_tokens old new (end_object ∷ []) w.2 shown w.4 written,
-)
 
 -- What is not awaited.
 
@@ -361,10 +353,6 @@ pub no_value : (types : Types) (of : Option ℕ) (fs : List Frame) (here : List 
 no_value types of fs here not = λ shown w.
     let v = value_front w.0 w.1 in
     not v.0 (ap front_of w.3 ∙ v.1)
-
-pub no_arm_end : (types : Types) (fs : List Frame) (here : List Mark) → (front_of here ≡ fronts.ArmEnd → ⊥) →
-    AwaitNot types (frames.ArmEnd ∷ fs) here
-no_arm_end types fs here not = λ shown w. not (ap front_of w.3)
 
 pub no_items : (types : Types) (of : Option ℕ) (are_unknown : Bool) (fs : List Frame) (here : List Mark) →
     (front_of here ≡ fronts.ArmEnd) ⊎ (front_of here ≡ fronts.Nothing) → AwaitNot types (frames.Items of are_unknown ∷ fs) here

@@ -1,13 +1,11 @@
 -- From the tape of a value to its end.
-use Rattle.std.proofs.Common.{◌≡◌, ◌∙◌, ap, sym, refl, subst, ℕ, ◌+◌, ◌*◌, ◌<◌, List, [], ◌∷◌, ◌++◌, append-nil, length, reverse, Option, arith}
-use Rattle.std.proofs.lemmas.List.{length-map}
+use Rattle.std.proofs.Common.{◌≡◌, ◌∙◌, ap, sym, refl, subst, ℕ, ◌+◌, List, [], ◌∷◌, ◌++◌, append-nil, length, reverse, Option, Some, None, MatchOption, arith}
 use Rattle.json.specs.Token.{Token}
-use Rattle.asn1_schema.specs.declared.tape.Item.{Item}
-use Rattle.asn1_schema.specs.Tape.{Kept, Mark, mark, marks, tape_of, value_of}
+use Rattle.asn1_schema.specs.Tape.{Kept, Mark, tape_of, value_of}
 use Rattle.asn1_json.specs.declared.walk.Frame.{Frame}
 use Rattle.asn1_json.specs.declared.walk.Frame.TheVariants as frames
 use Rattle.asn1_json.specs.Tokens.{Types, tokens_of}
-use Rattle.asn1_json.specs.Walk.{Await, Goes, AwaitNot, Steps, steps_left}
+use Rattle.asn1_json.specs.Walk.{Await, Goes, AwaitNot, Steps}
 use Rattle.asn1_json.proofs.Steps.{last_first, goes_on}
 
 -- no step
@@ -28,15 +26,16 @@ goes_step types start before popped after f here mid behind old now new is goes 
     goes_on types start (f ∷ reverse popped) (reverse after) here mid behind old now new
     (subst (λ (x : List Frame). Goes types start here x mid old now) (popped_first before popped f is) goes) step.goes
 
-pub fewer_steps : (types : Types) (before popped after : List Frame) (f : Frame) (xs ys : List Item) (now new : List Token) →
-    before ≡ popped ++ f ∷ [] → Steps types (f ∷ reverse popped) (marks xs) (reverse after) (marks ys) now new →
-    steps_left (reverse after) (length ys) < steps_left (reverse before) (length xs)
-fewer_steps types before popped after f xs ys now new is step =
-    let a = length-map xs mark in
-    let b = length-map ys mark in
-    let same = ap (λ (x : List Frame). steps_left x (length xs)) (popped_first before popped f is) in
-    let fewer = step.fewer in
-    omega (arith, a, b, same, fewer)
+-- what is taken from none
+pub none_left : {X : Type 0} (r : Option X) (n m : ℕ) → ((x : X) → r ≡ Some x → ⊥) →
+    MatchOption r ((n ≡ 0) × (m ≡ 0)) (λ _. m + 1 ≡ n) → n ≡ 0
+none_left None n m not told = told.0
+none_left (Some x) n m not told = absurd (not x refl)
+
+-- no frame is left
+pub no_frames : (fs : List Frame) → length fs ≡ 0 → reverse fs ≡ []
+no_frames [] none = refl
+no_frames (f ∷ fs) none = absurd (omega (arith, none))
 
 module _ (types : Types) (of : Option ℕ) (gs : List Frame) (here behind : List Mark) (old new : List Token)
     (goes : Goes types (frames.Value of ∷ []) here gs behind old new) (kept : Kept) (at : here ≡ tape_of kept) where

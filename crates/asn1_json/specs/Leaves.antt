@@ -1,5 +1,5 @@
 -- Values without parts as tokens of JSON.
-use Rattle.std.specs.Prelude.{ℕ, zero, suc, ◌+◌, ◌*◌, ◌/◌, ◌%◌, ◌^◌, ℤ, pos, Bool, List, [], ◌∷◌, ◌++◌, length, drop, codes}
+use Rattle.std.specs.Prelude.{ℕ, zero, suc, ◌+◌, ◌*◌, ◌/◌, ◌%◌, ◌^◌, ℤ, Bool, List, [], ◌∷◌, length, drop, codes}
 use Rattle.std.specs.Prelude.{if◌then◌else◌, encode_utf8_all}
 use Rattle.std.specs.Ordering.{int_eq}
 use Rattle.hex.specs.Hex.{encode_lower}
@@ -45,15 +45,19 @@ identifier_text relative o = if are_shown relative o then arcs_text (arcs relati
 abbrev pub element_text : Identifier → List ℕ → List ℕ
 element_text id o = encode_lower (element_octets (record id { class = id.class % 4 }) o)
 
+-- octets in hexadecimal, which zeros fill, and the number of bits
+abbrev pub bits_tokens : List Bool → List json.Token
+bits_tokens bs =
+    json.begin_object ∷ json.key (codes "value") ∷ json.string (encode_lower (octets_of_bits bs)) ∷
+    json.key (codes "length") ∷ json.number (number_text (length bs)) ∷ json.end_object ∷ []
+
 -- The tokens of a leaf, where the type has these names.
 abbrev pub leaf_tokens : List PartName → Leaf → List json.Token
 leaf_tokens labels (boolean b) = json.boolean b ∷ []
 leaf_tokens labels null = json.null ∷ []
 leaf_tokens labels (integer n) = json.number (integer_text n) ∷ []
 leaf_tokens labels (enumerated n) = listed_token (name_of labels n) n ∷ []
-leaf_tokens labels (bits bs) =
-    json.begin_object ∷ json.key (codes "value") ∷ json.string (encode_lower (octets_of_bits bs)) ∷
-    json.key (codes "length") ∷ json.number (number_text (length bs)) ∷ json.end_object ∷ []
+leaf_tokens labels (bits bs) = bits_tokens bs
 leaf_tokens labels (octets o) = json.string (encode_lower o) ∷ []
 leaf_tokens labels (identifier relative o) = json.string (identifier_text relative o) ∷ []
 leaf_tokens labels (text kind o) = json.string (text_of kind o) ∷ []

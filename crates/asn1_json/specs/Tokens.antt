@@ -1,12 +1,8 @@
 -- Values as tokens of JSON (ITU-T X.697).
-use Rattle.std.specs.Prelude.{ℕ, zero, suc, Bool, true, false, List, [], ◌∷◌, ◌++◌, length, codes, Option, Some, None, slice_get, nat_lt}
+use Rattle.std.specs.Prelude.{ℕ, zero, suc, List, [], ◌∷◌, ◌++◌, length, codes, Option, Some, None, slice_get, nat_lt}
 use Rattle.std.specs.Prelude.{option_map, option_and_then, if◌then◌else◌}
 use Rattle.json.specs.Token.{Token, begin_object, end_object, begin_array, end_array, key}
-use Rattle.asn1_schema.specs.declared.schema.Field.{Field}
 use Rattle.asn1_schema.specs.declared.schema.Node.{Node}
-use Rattle.asn1_schema.specs.declared.schema.Kind.{Kind}
-use Rattle.asn1_schema.specs.declared.schema.Kind.TheVariants as kinds
-use Rattle.asn1_schema.specs.declared.names.PartName.{PartName}
 use Rattle.asn1_schema.specs.declared.names.TypeNames.{TypeNames}
 use Rattle.asn1_schema.specs.Values.{Value, Values, leaf, row, chosen, none, absent, more}
 use Rattle.asn1_json.specs.declared.types.Types.{Types as Given}

@@ -1,5 +1,5 @@
 -- What is to come of a value that is half shown.
-use Rattle.std.specs.Prelude.{ℕ, zero, suc, ◌+◌, ◌*◌, Bool, List, [], ◌∷◌, ◌++◌, ◌≡◌, length, Option, Some, None, true, false, codes, ◌<◌, if◌then◌else◌}
+use Rattle.std.specs.Prelude.{ℕ, suc, ◌+◌, ◌*◌, Bool, List, [], ◌∷◌, ◌++◌, ◌≡◌, length, Option, Some, None, true, false, codes, ◌<◌, if◌then◌else◌}
 use Rattle.json.specs.Token.{Token, begin_object, end_object, begin_array, end_array, key}
 use Rattle.asn1_schema.specs.Tape.{Mark, leaf_mark, begin_mark, end_mark, absent_mark, arm_mark, arm_end_mark, pieces_mark, pieces_end_mark}
 use Rattle.asn1_schema.specs.Tape.{Kept, KeptRow, value_of, values_of, tape_of, tapes_of}
@@ -45,7 +45,7 @@ Await types (frames.Value of ∷ fs) here shown = (kept : Kept) × (behind : Lis
     (here ≡ tape_of kept ++ behind) × (shown ≡ tokens_of types of (value_of kept) ++ others) × Await types fs behind others
 Await types (frames.Items of are_unknown ∷ fs) here shown =
     (ks : KeptRow) × (n : ℕ) × (behind : List Mark) × (others : List Token) × (here ≡ row_marks ks n behind) ×
-    (shown ≡ tokens_of_items types of (values_of ks) ++ items_end are_unknown ++ others) × Await types fs behind others
+    (shown ≡ tokens_of_items types of (values_of ks) ++ (items_end are_unknown ++ others)) × Await types fs behind others
 Await types (frames.Fields at place ∷ fs) here shown =
     (ks : KeptRow) × (n : ℕ) × (behind : List Mark) × (others : List Token) × (here ≡ row_marks ks n behind) ×
     (shown ≡ tokens_of_fields types at place (values_of ks) ++ end_object ∷ others) × Await types fs behind others

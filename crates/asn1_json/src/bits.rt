@@ -1,5 +1,6 @@
 //! Bit strings: their bits one by one, and in octets.
-ghost use Rattle.std.specs.Prelude.{◌≡◌, ◌-◌, ◌*◌, ◌%◌, ◌++◌, length, take, nat_eq, IfOk, OnOk};
+ghost use Rattle.std.specs.Prelude.{◌≡◌, ◌-◌, ◌*◌, ◌%◌, ◌++◌, length, take, nat_eq, slice_index_or, false, IfOk, OnOk};
+ghost use Rattle.x690.specs.Identifiers.{bit};
 ghost use Rattle.asn1_schema.specs.Grammar.{bits_in, digits_2};
 ghost use Rattle.asn1_schema.specs.Same.{all_bits_of, bits_of};
 ghost use Rattle.asn1_schema.specs.Tape.{mark, marks};
@@ -81,17 +82,23 @@ pub fn joined_bits(alloc: Global, pieces: &[Item<'_>]) -> Result<Vec<bool>, Allo
     Ok(bits)
 }
 
+/// A bit as a number. A bit that is missing is 0.
+fn bit_at(bits: &[bool], place: usize) -> u8
+    ensures { result ≡ bit (slice_index_or bits.now place false) }
+{
+    match bits.get(place) {
+        Some(bit) => u8::from(*bit),
+        None => 0,
+    }
+}
+
 /// The number that the first eight bits say, the first one highest.
 fn first_octet(bits: &[bool]) -> u8
     ensures { result ≡ number_of_bits 8 bits.now }
 {
     let mut octet = 0;
     for place in 0..8 {
-        let bit = match bits.get(place) {
-            Some(bit) => u8::from(*bit),
-            None => 0,
-        };
-        octet = octet * 2 + bit;
+        octet = octet * 2 + bit_at(bits, place);
     }
     octet
 }

@@ -9,12 +9,11 @@ ghost use Rattle.asn1_words.specs.Words.{integer_text, number_text};
 ghost use Rattle.asn1_schema.specs.Joined.{all_octets, octets_of};
 ghost use Rattle.asn1_schema.specs.Same.{joined_leaf, all_bits_of};
 ghost use Rattle.asn1_schema.specs.Tape.{Kept, Mark, mark, marks, tape_of, value_of};
-ghost use Rattle.asn1_schema.specs.Values.{Leaf, leaf, bits};
-ghost use Rattle.asn1_schema.specs.declared.names.PartName.{PartName as Label};
+ghost use Rattle.asn1_schema.specs.Values.{Leaf, leaf};
 ghost use Rattle.asn1_json.specs.Types.{labels_at};
 ghost use Rattle.asn1_json.specs.Texts.{text_of};
 ghost use Rattle.asn1_json.specs.Walk.{begins_pieces};
-ghost use Rattle.asn1_json.specs.Leaves.{identifier_text, leaf_tokens, listed_token, name_of};
+ghost use Rattle.asn1_json.specs.Leaves.{bits_tokens, identifier_text, leaf_tokens, listed_token, name_of};
 
 use crate::bits::{joined_bits, octets_of_bits};
 use crate::out::TokenWriter;
@@ -178,8 +177,8 @@ fn put_bits<W: TokenWriter>(
     out: &mut W,
     pieces: &[Item<'_>],
 ) -> Result<(), AllocError>
-    ensures { (labels : List Label) → OnOk result (W.written out.new ≡
-        W.written out.old ++ leaf_tokens labels (bits (all_bits_of (marks pieces.now)))) }
+    ensures { OnOk result (W.written out.new ≡
+        W.written out.old ++ bits_tokens (all_bits_of (marks pieces.now))) }
 {
     let bits = joined_bits(alloc, pieces)?;
     let octets = octets_of_bits(alloc, bits.as_slice())?;

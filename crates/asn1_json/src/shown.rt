@@ -6,12 +6,12 @@ ghost use Rattle.asn1_json.specs.Shown.{layout, of_schema};
 ghost use Rattle.asn1_json.specs.declared.error.JsonError.TheVariants as errors;
 
 use crate::error::JsonError;
-use crate::out::TokenWriter;
+use crate::out::{OneLine, TokenWriter};
 use crate::types::Types;
 use crate::walk::{Frame, Left, step};
 use asn1_schema::build::Schema;
 use asn1_schema::tape::Item;
-use json::{Pretty, Writer};
+use json::Pretty;
 use std::alloc::Global;
 
 /// Writes the value of a tape, by the type at a place of a table.
@@ -22,7 +22,8 @@ pub fn write_value<W: TokenWriter>(
     tape: &[Item<'_>],
     out: &mut W,
 ) -> Result<(), JsonError>
-    ensures tokens { (kept : Kept) → marks tape.now ≡ tape_of kept → OnOk result (W.written out.new ≡
+    ensures tokens { (kept : Kept) → marks tape.now ≡ tape_of kept →
+        OnOk result (W.written out.new ≡
         W.written out.old ++ tokens_of (seen types.entry) (Some of) (value_of kept)) }
     ensures none { IsErrOf result errors.NoValue →
         (kept : Kept) → marks tape.now ≡ tape_of kept → ⊥ }
@@ -61,7 +62,7 @@ pub fn json_of(
         write_value(alloc, types, of, tape, &mut out)?;
         return Ok(out.into_inner());
     }
-    let mut out = Writer::new(Vec::new(alloc));
+    let mut out = OneLine::new(alloc);
     write_value(alloc, types, of, tape, &mut out)?;
     Ok(out.into_inner())
 }

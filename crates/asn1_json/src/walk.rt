@@ -1,5 +1,5 @@
 //! A value is shown item by item, over a stack of what is open.
-ghost use Rattle.std.specs.Prelude.{suc, ◌≡◌, ◌≢◌, ◌++◌, ◌∷◌, ◌<◌, [], List, reverse, length, nat_lt, OnOk, IfOk, IsErrOf};
+ghost use Rattle.std.specs.Prelude.{suc, ◌≡◌, ◌++◌, ◌∷◌, ◌<◌, [], List, reverse, length, nat_lt, OnOk, IfOk, IsErrOf};
 ghost use Rattle.json.specs.Token.{begin_object, key};
 ghost use Rattle.asn1_schema.specs.Tape.{Kept, Mark, marks, tape_of, value_of};
 ghost use Rattle.asn1_schema.specs.Values.{Leaf, Values, leaf};
@@ -127,22 +127,28 @@ fn open_arm<W: TokenWriter>(
     put_arm_name(alloc, types, at, arm, out)
 }
 
-/// The leaf at the front is written. What is behind it is answered.
+/// The leaf at the front is written. What is behind it is answered. `NoValue` says that its pieces do not end.
 fn put_front_leaf<'t, 'a, W: TokenWriter>(
     alloc: Global,
     types: Types<'_, '_>,
     at: Option<usize>,
     items: &'t [Item<'a>],
     out: &mut W,
-) -> Result<&'t [Item<'a>], AllocError>
+) -> Result<&'t [Item<'a>], JsonError>
     ensures behind { (kept : Kept) (rest : List Mark) → marks items.now ≡ tape_of kept ++ rest →
         IfOk result (λ behind. marks behind.now ≡ rest) }
-    ensures tokens { (kept : Kept) (rest : List Mark) (l : Leaf) → marks items.now ≡ tape_of kept ++ rest →
-        value_of kept ≡ leaf l → OnOk result (W.written out.new ≡
+    ensures tokens { (kept : Kept) (rest : List Mark) (l : Leaf) →
+        marks items.now ≡ tape_of kept ++ rest → value_of kept ≡ leaf l →
+        OnOk result (W.written out.new ≡
         W.written out.old ++ leaf_tokens (labels_at (seen types.entry).names at) l) }
-    ensures shorter { [] ≢ items.now → IfOk result (λ behind. length behind.now < length items.now) }
+    ensures shorter { IfOk result (λ behind. length behind.now < length items.now) }
+    ensures none { IsErrOf result errors.NoValue → (kept : Kept) (rest : List Mark) →
+        marks items.now ≡ tape_of kept ++ rest → ⊥ }
 {
     let (value, behind) = split_value(items);
+    if value.is_empty() {
+        return Err(JsonError::NoValue);
+    }
     put_leaf(alloc, out, types, at, pieces_of(value))?;
     Ok(behind)
 }
@@ -156,10 +162,13 @@ fn begin_value<'t, 'a, W: TokenWriter>(
     frames: &mut Vec<Frame>,
     out: &mut W,
 ) -> Result<&'t [Item<'a>], JsonError>
-    ensures ok { IfOk result (λ behind. Steps (seen types.entry) (awaited.Value of ∷ reverse frames.old.items)
-        (marks items.now) (reverse frames.new.items) (marks behind.now) (W.written out.old) (W.written out.new)) }
+    ensures ok { IfOk result (λ behind. Steps (seen types.entry)
+        (awaited.Value of ∷ reverse frames.old.items)
+        (marks items.now) (reverse frames.new.items) (marks behind.now) (W.written out.old)
+        (W.written out.new)) }
     ensures none { IsErrOf result errors.NoValue →
-        AwaitNot (seen types.entry) (awaited.Value of ∷ reverse frames.old.items) (marks items.now) }
+        AwaitNot (seen types.entry) (awaited.Value of ∷ reverse frames.old.items)
+        (marks items.now) }
 {
     let at = types.resolved(of);
     match front_of(items) {
@@ -228,10 +237,13 @@ fn step_fields<'t, 'a, W: TokenWriter>(
     frames: &mut Vec<Frame>,
     out: &mut W,
 ) -> Result<&'t [Item<'a>], JsonError>
-    ensures ok { IfOk result (λ behind. Steps (seen types.entry) (awaited.Fields at place ∷ reverse frames.old.items)
-        (marks items.now) (reverse frames.new.items) (marks behind.now) (W.written out.old) (W.written out.new)) }
+    ensures ok { IfOk result (λ behind. Steps (seen types.entry)
+        (awaited.Fields at place ∷ reverse frames.old.items)
+        (marks items.now) (reverse frames.new.items) (marks behind.now) (W.written out.old)
+        (W.written out.new)) }
     ensures none { IsErrOf result errors.NoValue →
-        AwaitNot (seen types.entry) (awaited.Fields at place ∷ reverse frames.old.items) (marks items.now) }
+        AwaitNot (seen types.entry) (awaited.Fields at place ∷ reverse frames.old.items)
+        (marks items.now) }
 {
     match front_of(items) {
         Front::Value(_) => {
@@ -270,8 +282,10 @@ fn step_items<'t, 'a, W: TokenWriter>(
     frames: &mut Vec<Frame>,
     out: &mut W,
 ) -> Result<&'t [Item<'a>], JsonError>
-    ensures ok { (types : SpecTypes) → IfOk result (λ behind. Steps types (awaited.Items of are_unknown ∷ reverse frames.old.items)
-        (marks items.now) (reverse frames.new.items) (marks behind.now) (W.written out.old) (W.written out.new)) }
+    ensures ok { (types : SpecTypes) → IfOk result (λ behind. Steps types
+        (awaited.Items of are_unknown ∷ reverse frames.old.items)
+        (marks items.now) (reverse frames.new.items) (marks behind.now) (W.written out.old)
+        (W.written out.new)) }
     ensures none { (types : SpecTypes) → IsErrOf result errors.NoValue →
         AwaitNot types (awaited.Items of are_unknown ∷ reverse frames.old.items) (marks items.now) }
 {
@@ -317,6 +331,29 @@ fn step_arm_end<'t, 'a, W: TokenWriter>(
     }
 }
 
+/// What the innermost frame awaits is at the front. What is left behind it is answered.
+fn step_frame<'t, 'a, W: TokenWriter>(
+    alloc: Global,
+    types: Types<'_, '_>,
+    frame: Frame,
+    items: &'t [Item<'a>],
+    frames: &mut Vec<Frame>,
+    out: &mut W,
+) -> Result<&'t [Item<'a>], JsonError>
+    ensures ok { IfOk result (λ behind. Steps (seen types.entry) (frame ∷ reverse frames.old.items)
+        (marks items.now) (reverse frames.new.items) (marks behind.now) (W.written out.old)
+        (W.written out.new)) }
+    ensures none { IsErrOf result errors.NoValue →
+        AwaitNot (seen types.entry) (frame ∷ reverse frames.old.items) (marks items.now) }
+{
+    match frame {
+        Frame::Value(of) => begin_value(alloc, types, of, items, frames, out),
+        Frame::Items(of, are_unknown) => step_items(of, are_unknown, items, frames, out),
+        Frame::Fields(at, place) => step_fields(alloc, types, at, place, items, frames, out),
+        Frame::ArmEnd => step_arm_end(items, out),
+    }
+}
+
 /// What is left of a tape.
 #[derive(Debug, Clone, Copy)]
 pub struct Left<'t, 'a> {
@@ -337,14 +374,9 @@ pub fn step<'t, 'a, W: TokenWriter>(
         (marks left.entry.items.now) (reverse frames.new.items) (marks behind.items.now)
         (W.written out.old) (W.written out.new)) }
     ensures none { IsErrOf result errors.NoValue →
-        AwaitNot (seen types.entry) (frame ∷ reverse frames.old.items) (marks left.entry.items.now) }
+        AwaitNot (seen types.entry) (frame ∷ reverse frames.old.items)
+        (marks left.entry.items.now) }
 {
-    let items = left.items;
-    let behind = match frame {
-        Frame::Value(of) => begin_value(alloc, types, of, items, frames, out)?,
-        Frame::Items(of, are_unknown) => step_items(of, are_unknown, items, frames, out)?,
-        Frame::Fields(at, place) => step_fields(alloc, types, at, place, items, frames, out)?,
-        Frame::ArmEnd => step_arm_end(items, out)?,
-    };
-    Ok(Left { items: behind })
+    let items = step_frame(alloc, types, frame, left.items, frames, out)?;
+    Ok(Left { items })
 }
