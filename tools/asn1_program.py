@@ -386,7 +386,7 @@ NOT_SAID = [
     ("A", '{"c":{"n":null},\n "d":1}', "FILE:2:2 (A): the type has no part with this name"),
     ("A", '{"c":{"n":null},\n "c":1}', "FILE:2:2 (A): the name stands there more than once"),
     ("A", '{"c":{"n":null},"...":[0]}', "FILE:1:24, ...[0] (ANY): expected a string of one element in hexadecimal, with a strict header"),
-    ("A", '{"c":{"n":null},"...":["050101"]}', "FILE:1:24, ...[0] (ANY): expected a string of one element in hexadecimal, with a strict header"),
+    ("A", '{"c":{"n":null},"...":["0501"]}', "FILE:1:24, ...[0] (ANY): expected a string of one element in hexadecimal, with a strict header"),
     ("A", '{"c":{"n":null},"...":["0000"]}', "FILE:1:24, ...[0] (ANY): the value is none of the type"),
     ("A", '{"c":{"x":null}}', "FILE:1:7, c (C): the type has no part with this name"),
     ("A", '{"c":{}}', "FILE:1:6, c (C): expected an object with one member"),
