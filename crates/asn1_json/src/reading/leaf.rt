@@ -1,4 +1,13 @@
 //! Values without parts, from JSON.
+ghost use Rattle.std.specs.Prelude.{◌≡◌, true, Some, MatchResult};
+ghost use Rattle.json.specs.Value.{value_view};
+ghost use Rattle.asn1_schema.specs.Sound.{is_sound};
+ghost use Rattle.asn1_schema.specs.Tape.{leaf_mark, mark, marks};
+ghost use Rattle.asn1_schema.specs.Values.{Leaf, Value as SpecValue, leaf};
+ghost use Rattle.asn1_json.specs.Made.{tape_of_value};
+ghost use Rattle.asn1_json.specs.Outcomes.{DenotesSimple, HasWord, Reads};
+ghost use Rattle.asn1_json.specs.Types.{kind_at, labels_at};
+ghost use Rattle.asn1_json.specs.declared.reading.trail.Fault.TheVariants as faults;
 
 use crate::reading::arcs::{has_arcs, identifier_content};
 use crate::reading::bits::{bits_of, hexadecimal};
@@ -33,7 +42,12 @@ pub(super) fn judge(
     of: usize,
     tape: &[Item<'_>],
     trail: &mut Trail,
-) -> Result<(), Fault> {
+) -> Result<(), Fault>
+    requires { is_sound by.types.table.now ≡ true }
+    ensures { (v : SpecValue) → marks tape.now ≡ tape_of_value v → MatchResult result
+        (λ _. HasWord by.entry.types.table.now by.entry.depth of.entry v)
+        (λ fault. fault ≡ faults.Refused → HasWord by.entry.types.table.now by.entry.depth of.entry v → ⊥) }
+{
     let mut buf = DerBuffer::new(by.alloc);
     match encode_der(by.types.table, of, by.depth, tape, &mut buf) {
         Ok(()) => Ok(()),
@@ -49,7 +63,11 @@ fn put(
     item: Item<'_>,
     made: &mut JsonTape,
     trail: &mut Trail,
-) -> Result<(), Fault> {
+) -> Result<(), Fault>
+    requires { is_sound by.types.table.now ≡ true }
+    ensures { (l : Leaf) → mark item.entry ≡ leaf_mark l → Reads tape_of_value (λ v. v ≡ leaf l)
+        (HasWord by.entry.types.table.now by.entry.depth of.entry) made.old made.new result }
+{
     judge(by, of, &[item], trail)?;
     made.push(&item)?;
     Ok(())
@@ -293,7 +311,12 @@ pub(super) fn read_leaf(
     value: &Value<'_>,
     made: &mut JsonTape,
     trail: &mut Trail,
-) -> Result<(), Fault> {
+) -> Result<(), Fault>
+    requires sound { is_sound by.types.table.now ≡ true }
+    requires kind { kind_at by.types.table.now (Some at) ≡ Some kind.now }
+    ensures { Reads tape_of_value (DenotesSimple (labels_at by.entry.types.names.now (Some at)) kind.now
+        (value_view value.now)) (HasWord by.entry.types.table.now by.entry.depth of.entry) made.old made.new result }
+{
     match kind {
         Kind::Boolean => read_boolean(by, of, value, made, trail),
         Kind::Null => read_null(by, of, value, made, trail),

@@ -1,4 +1,11 @@
 //! Values with parts, from JSON.
+ghost use Rattle.std.specs.Prelude.{◌≡◌, true};
+ghost use Rattle.json.specs.Value.{value_view};
+ghost use Rattle.asn1_schema.specs.Sound.{is_sound};
+ghost use Rattle.asn1_json.specs.Denotes.{Denotes};
+ghost use Rattle.asn1_json.specs.Made.{tape_of_value};
+ghost use Rattle.asn1_json.specs.Outcomes.{HasWord, Reads};
+ghost use Rattle.asn1_json.specs.Tokens.{seen};
 
 use crate::reading::arranged::arrange;
 use crate::reading::leaf::{By, judge, read_leaf};
@@ -236,7 +243,12 @@ pub(super) fn read_value(
     value: &Value<'_>,
     made: &mut JsonTape,
     trail: &mut Trail,
-) -> Result<(), Fault> {
+) -> Result<(), Fault>
+    requires { is_sound by.types.table.now ≡ true }
+    ensures { Reads tape_of_value
+        (Denotes (seen by.entry.types) by.entry.depth depth.entry of.entry (value_view value.now))
+        (HasWord by.entry.types.table.now by.entry.depth of.entry) made.old made.new result }
+{
     if depth == 0 {
         return Err(trail.refused(of, Reason::Json));
     }
