@@ -57,12 +57,16 @@ pub enum FromJsonError {
 }
 
 impl<T: Drop> From<AllocFailed<T>> for FromJsonError {
+    ghost from_gives = { λ _ e. e ≡ errors.OutOfMemory };
+
     fn from(_failed: AllocFailed<T>) -> FromJsonError {
         FromJsonError::OutOfMemory
     }
 }
 
 impl From<AllocError> for FromJsonError {
+    ghost from_gives = { λ _ e. e ≡ errors.OutOfMemory };
+
     fn from(_error: AllocError) -> FromJsonError {
         FromJsonError::OutOfMemory
     }
@@ -132,7 +136,9 @@ fn made_from(
     of: usize,
     text: &str,
     value: &Value<'_>,
-) -> Result<JsonTape, FromJsonError> {
+) -> Result<JsonTape, FromJsonError>
+    requires { is_sound by.types.table.now ≡ true }
+{
     let mut made = JsonTape::new(by.alloc);
     let mut trail = Trail::new(by.alloc, of);
     match read_value(by, MOST_DEPTH, of, value, &mut made, &mut trail) {

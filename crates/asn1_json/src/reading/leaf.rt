@@ -45,8 +45,8 @@ pub(super) fn judge(
 ) -> Result<(), Fault>
     requires { is_sound by.types.table.now ≡ true }
     ensures { (v : SpecValue) → marks tape.now ≡ tape_of_value v → MatchResult result
-        (λ _. HasWord by.entry.types.table.now by.entry.depth of.entry v)
-        (λ fault. fault ≡ faults.Refused → HasWord by.entry.types.table.now by.entry.depth of.entry v → ⊥) }
+        (λ _. HasWord by.entry.types.table.now by.entry.depth of v)
+        (λ fault. fault ≡ faults.Refused → HasWord by.entry.types.table.now by.entry.depth of v → ⊥) }
 {
     let mut buf = DerBuffer::new(by.alloc);
     match encode_der(by.types.table, of, by.depth, tape, &mut buf) {
@@ -66,7 +66,7 @@ fn put(
 ) -> Result<(), Fault>
     requires { is_sound by.types.table.now ≡ true }
     ensures { (l : Leaf) → mark item.entry ≡ leaf_mark l → Reads tape_of_value (λ v. v ≡ leaf l)
-        (HasWord by.entry.types.table.now by.entry.depth of.entry) made.old made.new result }
+        (HasWord by.entry.types.table.now by.entry.depth of) made.old made.new result }
 {
     judge(by, of, &[item], trail)?;
     made.push(&item)?;
@@ -80,7 +80,9 @@ fn read_boolean(
     value: &Value<'_>,
     made: &mut JsonTape,
     trail: &mut Trail,
-) -> Result<(), Fault> {
+) -> Result<(), Fault>
+    requires { is_sound by.types.table.now ≡ true }
+{
     match value {
         Value::Bool(truth) => put(by, of, Item::Boolean(*truth), made, trail),
         _ => Err(trail.refused(of, Reason::Boolean)),
@@ -94,7 +96,9 @@ fn read_null(
     value: &Value<'_>,
     made: &mut JsonTape,
     trail: &mut Trail,
-) -> Result<(), Fault> {
+) -> Result<(), Fault>
+    requires { is_sound by.types.table.now ≡ true }
+{
     match value {
         Value::Null => put(by, of, Item::Null, made, trail),
         _ => Err(trail.refused(of, Reason::Null)),
@@ -108,7 +112,9 @@ fn read_integer(
     value: &Value<'_>,
     made: &mut JsonTape,
     trail: &mut Trail,
-) -> Result<(), Fault> {
+) -> Result<(), Fault>
+    requires { is_sound by.types.table.now ≡ true }
+{
     let Value::Number(text) = value else {
         return Err(trail.refused(of, Reason::Integer));
     };
@@ -126,7 +132,9 @@ fn read_name(
     name: &str,
     made: &mut JsonTape,
     trail: &mut Trail,
-) -> Result<(), Fault> {
+) -> Result<(), Fault>
+    requires { is_sound by.types.table.now ≡ true }
+{
     let Some(number) = by.types.number(at, name) else {
         return Err(trail.refused(of, Reason::Listed));
     };
@@ -144,7 +152,9 @@ fn read_listed(
     value: &Value<'_>,
     made: &mut JsonTape,
     trail: &mut Trail,
-) -> Result<(), Fault> {
+) -> Result<(), Fault>
+    requires { is_sound by.types.table.now ≡ true }
+{
     match value {
         Value::String(name) => read_name(by, of, at, name, made, trail),
         Value::Number(text) => match integer_content(by.alloc, text)? {
@@ -162,7 +172,9 @@ fn read_bits(
     value: &Value<'_>,
     made: &mut JsonTape,
     trail: &mut Trail,
-) -> Result<(), Fault> {
+) -> Result<(), Fault>
+    requires { is_sound by.types.table.now ≡ true }
+{
     let Value::Object(members) = value else {
         return Err(trail.refused(of, Reason::Bits));
     };
@@ -179,7 +191,9 @@ fn read_octets(
     text: &str,
     made: &mut JsonTape,
     trail: &mut Trail,
-) -> Result<(), Fault> {
+) -> Result<(), Fault>
+    requires { is_sound by.types.table.now ≡ true }
+{
     match hexadecimal(by.alloc, text)? {
         Some(octets) => put(by, of, Item::Octets(&octets), made, trail),
         None => Err(trail.refused(of, Reason::Octets)),
@@ -194,7 +208,9 @@ fn read_identifier(
     text: &str,
     made: &mut JsonTape,
     trail: &mut Trail,
-) -> Result<(), Fault> {
+) -> Result<(), Fault>
+    requires { is_sound by.types.table.now ≡ true }
+{
     let content = if has_arcs(relative, text) {
         identifier_content(by.alloc, relative, text)?
     } else {
@@ -214,7 +230,9 @@ fn read_text(
     text: &str,
     made: &mut JsonTape,
     trail: &mut Trail,
-) -> Result<(), Fault> {
+) -> Result<(), Fault>
+    requires { is_sound by.types.table.now ≡ true }
+{
     match text_octets(by.alloc, kind, text)? {
         Some(octets) => put(by, of, Item::Text(kind, &octets), made, trail),
         None => Err(trail.refused(of, Reason::Text)),
@@ -229,7 +247,9 @@ fn read_time(
     text: &str,
     made: &mut JsonTape,
     trail: &mut Trail,
-) -> Result<(), Fault> {
+) -> Result<(), Fault>
+    requires { is_sound by.types.table.now ≡ true }
+{
     match character_octets(by.alloc, text)? {
         Some(octets) => put(by, of, Item::Time(kind, &octets), made, trail),
         None => Err(trail.refused(of, Reason::Value)),
@@ -257,7 +277,9 @@ fn read_element(
     text: &str,
     made: &mut JsonTape,
     trail: &mut Trail,
-) -> Result<(), Fault> {
+) -> Result<(), Fault>
+    requires { is_sound by.types.table.now ≡ true }
+{
     let Some(octets) = hexadecimal(by.alloc, text)? else {
         return Err(trail.refused(of, Reason::Element));
     };
@@ -287,7 +309,9 @@ fn read_string(
     value: &Value<'_>,
     made: &mut JsonTape,
     trail: &mut Trail,
-) -> Result<(), Fault> {
+) -> Result<(), Fault>
+    requires { is_sound by.types.table.now ≡ true }
+{
     let Value::String(text) = value else {
         return Err(trail.refused(of, no_string(kind)));
     };
@@ -315,7 +339,7 @@ pub(super) fn read_leaf(
     requires sound { is_sound by.types.table.now ≡ true }
     requires kind { kind_at by.types.table.now (Some at) ≡ Some kind.now }
     ensures { Reads tape_of_value (DenotesSimple (labels_at by.entry.types.names.now (Some at)) kind.now
-        (value_view value.now)) (HasWord by.entry.types.table.now by.entry.depth of.entry) made.old made.new result }
+        (value_view value.now)) (HasWord by.entry.types.table.now by.entry.depth of) made.old made.new result }
 {
     match kind {
         Kind::Boolean => read_boolean(by, of, value, made, trail),

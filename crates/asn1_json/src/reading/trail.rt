@@ -1,4 +1,6 @@
 //! Where and why JSON is refused.
+ghost use Rattle.std.specs.Prelude.{◌≡◌};
+ghost use Rattle.asn1_json.specs.declared.reading.trail.Fault.TheVariants as faults;
 
 use std::alloc::{AllocError, AllocFailed, Global};
 use std::fmt;
@@ -99,12 +101,16 @@ pub(super) enum Fault {
 }
 
 impl<T: Drop> From<AllocFailed<T>> for Fault {
+    ghost from_gives = { λ _ e. e ≡ faults.Memory };
+
     fn from(_failed: AllocFailed<T>) -> Fault {
         Fault::Memory
     }
 }
 
 impl From<AllocError> for Fault {
+    ghost from_gives = { λ _ e. e ≡ faults.Memory };
+
     fn from(_error: AllocError) -> Fault {
         Fault::Memory
     }
