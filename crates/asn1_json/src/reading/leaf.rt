@@ -19,6 +19,7 @@ use crate::types::Types;
 use asn1_headers::buffer::DerBuffer;
 use asn1_headers::der::element_by_der;
 use asn1_schema::encode::{EncodeError, encode_der};
+use asn1_schema::laws::tapes_begin_with_one_value;
 use asn1_schema::schema::{Kind, TextKind, TimeKind};
 use asn1_schema::tape::Item;
 use json::Value;
@@ -48,6 +49,7 @@ pub(super) fn judge(
         (λ _. HasWord by.entry.types.table.now by.entry.depth of v)
         (λ fault. fault ≡ faults.Refused → HasWord by.entry.types.table.now by.entry.depth of v → ⊥) }
 {
+    tapes_begin_with_one_value();
     let mut buf = DerBuffer::new(by.alloc);
     match encode_der(by.types.table, of, by.depth, tape, &mut buf) {
         Ok(()) => Ok(()),
@@ -68,9 +70,13 @@ fn put(
     ensures { (l : Leaf) → mark item.entry ≡ leaf_mark l → Reads tape_of_value (λ v. v ≡ leaf l)
         (HasWord by.entry.types.table.now by.entry.depth of) made.old made.new result }
 {
-    judge(by, of, &[item], trail)?;
-    made.push(&item)?;
-    Ok(())
+    match judge(by, of, &[item], trail) {
+        Ok(()) => {
+            made.push(&item)?;
+            Ok(())
+        }
+        Err(fault) => Err(fault),
+    }
 }
 
 /// A truth value.
