@@ -18,16 +18,15 @@ mod place;
 mod trail;
 mod values;
 
-pub use made::JsonTape;
-pub use trail::Reason;
-
 use crate::types::Types;
 use asn1_schema::build::Schema;
 use json::{Error, Scratch, Value};
 use leaf::By;
+pub use made::JsonTape;
 use place::{octet_of, octet_of_fault, path_of};
 use std::alloc::{AllocError, AllocFailed, Global};
 use std::{fmt, str};
+pub use trail::Reason;
 use trail::{Fault, Trail};
 use values::read_value;
 
@@ -178,7 +177,11 @@ pub fn tape_from_json(
         table: schema.nodes.as_slice(),
         names: schema.names.as_slice(),
     };
-    let by = By { alloc, types, depth };
+    let by = By {
+        alloc,
+        types,
+        depth,
+    };
     let mut scratch = Scratch::new(alloc);
     match Value::parse(alloc, text, &mut scratch) {
         Ok(value) => made_from(by, of, text, &value),

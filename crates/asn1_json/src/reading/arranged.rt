@@ -62,7 +62,11 @@ fn members_of(
 }
 
 /// The items of members, in their order.
-fn items_of(by: By<'_, '_>, items: &[Placed], members: &[Member]) -> Result<Vec<Placed>, AllocError> {
+fn items_of(
+    by: By<'_, '_>,
+    items: &[Placed],
+    members: &[Member],
+) -> Result<Vec<Placed>, AllocError> {
     let mut arranged = Vec::with_capacity(by.alloc, items.len())?;
     for member in members {
         let rest = items.split_at(member.start.min(items.len())).1;

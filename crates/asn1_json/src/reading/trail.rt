@@ -72,7 +72,8 @@ impl Reason {
             Reason::Identifier => "expected a string of arcs with points between them",
             Reason::Text => "expected a string of characters that the type has",
             Reason::Time => "expected a string",
-            Reason::Element => "expected a string of one element in hexadecimal, with a strict header",
+            Reason::Element =>
+                "expected a string of one element in hexadecimal, with a strict header",
             Reason::Object => "expected an object",
             Reason::Array => "expected an array",
             Reason::OneMember => "expected an object with one member",

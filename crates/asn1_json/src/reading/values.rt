@@ -37,7 +37,14 @@ fn put_default(
 {
     let mut tape = Vec::new(by.alloc);
     let mut refusal = Refusal::none();
-    match decode_der_whole(by.types.table, of, by.depth, octets, &mut tape, &mut refusal) {
+    match decode_der_whole(
+        by.types.table,
+        of,
+        by.depth,
+        octets,
+        &mut tape,
+        &mut refusal,
+    ) {
         Ok(()) => {
             made.append(&tape)?;
             Ok(())
