@@ -361,7 +361,7 @@ VALUES = [
     ("A", "308005000000", ("--rules", "ber"), 0, ['{"a":false,"c":{"n":null}}'], ""),
     ("A", "30020500" "30050101ff0500", ("--lines",), 0, ['{"a":false,"c":{"n":null}}', '{"a":true,"c":{"n":null}}'], ""),
     ("A", "30020500" "30020400", ("--lines",), 1, ['{"a":false,"c":{"n":null}}'], "FILE: octet 6, c (C): a component is missing"),
-    ("A", "", ("--lines",), 0, [], ""),
+    ("A", "", ("--lines",), 1, [], "asn1: FILE: the file is empty"),
     ("A", "308005000000", (), 1, [], "FILE: octet 0 (A): no element begins here, or it is cut"),
     ("A", "3002050030", (), 1, [], "FILE: octet 4 (A): octets follow where none may"),
     ("C", "300302010a", (), 1, [], "FILE: octet 2, s[0] (INTEGER within -9..9): the number or the size is out of bounds"),
