@@ -1,7 +1,7 @@
 #!/usr/bin/env python3
-"""Writes the impls of `ReadsType` of the leaf types of `asn1_rs`, which no macro of the repository may write.
+"""Writes the impls of `ReadsType` and `WritesType` of the leaf types of `asn1_rs`, which no macro may write.
 
-tools/leaves.py           writes them between the marker lines of `leaves_by_der.rt` and `leaves_by_ber.rt`
+tools/leaves.py           writes them between the marker lines of `structs/leaves_*.rt`
 tools/leaves.py --check   status 1 where what stands there is not what it would write
 
 The leaf types are those without a parameter that have `LawfulType` in `structs/types.rt`.
@@ -33,6 +33,24 @@ impl<'a> ReadsType<'a, {parser}> for {leaf} {{
 """
 
 
+PUT = """\
+impl<'a> WritesType for {leaf} {{
+    ghost type_writing = {{ ⟦<{leaf} as LawfulType>⟧.type_laws.writing }};
+
+    ghost has_its_value = {{ HasItsValue ⟦<{leaf} as LawfulType>⟧.type_laws.grammar }};
+
+    #[inline(always)]
+    fn put_type(&self, fields: &mut Fields) -> SerializeResult<()> {{
+        fields.put(self)
+    }}
+
+    fn type_in_hand(&self) {{
+        self.has_value();
+    }}
+}}
+"""
+
+
 def leaves():
     """The leaf types, each with the lifetime of the octets that it is read from."""
     text = (STRUCTS / "types.rt").read_text(encoding="utf-8")
@@ -40,20 +58,28 @@ def leaves():
         yield re.sub(r"^&(?=\S)", "&'a ", name.replace("'_", "'a"))
 
 
-def written(rules):
-    """The file of these rules, with the impls between its marker lines."""
-    path = STRUCTS / f"leaves_by_{rules.lower()}.rt"
+def read(rules, leaf):
+    """The impl by which a leaf type is read by the rules."""
+    return IMPL.format(parser=f"{rules}Parser", rules=rules, low=rules.lower(), leaf=leaf)
+
+
+def put(leaf):
+    """The impl by which it is written."""
+    text = PUT.format(leaf=leaf)
+    return text if "'a" in leaf else text.replace("impl<'a>", "impl")
+
+
+def written(name, impl):
+    """The file of this name, with the impls between its marker lines."""
+    path = STRUCTS / f"leaves_{name}.rt"
     head, rest = path.read_text(encoding="utf-8").split(BEGIN)
-    impls = []
-    for leaf in leaves():
-        impls.append(IMPL.format(parser=f"{rules}Parser", rules=rules, low=rules.lower(), leaf=leaf))
-    return path, head + BEGIN + "\n".join(impls) + END + rest.split(END)[1]
+    return path, head + BEGIN + "\n".join(map(impl, leaves())) + END + rest.split(END)[1]
 
 
 def main():
     stale = 0
-    for rules in ("Der", "Ber"):
-        path, text = written(rules)
+    for name, impl in (("by_der", lambda leaf: read("Der", leaf)), ("by_ber", lambda leaf: read("Ber", leaf)), ("put", put)):
+        path, text = written(name, impl)
         if text == path.read_text(encoding="utf-8"):
             continue
         stale += 1
