@@ -4,7 +4,8 @@ ghost use Rattle.asn1_rs_certificates.specs.Certificates.{added_of};
 ghost use Rattle.asn1_rs.specs.Structs.PartsOfRows.{PartGives, part_of};
 
 use crate::{Extensions, IssuerUniqueId, SubjectUniqueId, TbsCertificate};
-use asn1_rs::{BorrowedRow, DerParser, Error, Fields, ReadsRow, Row, SerializeResult, row_by_der};
+use asn1_rs::author::{BorrowedRow, Fields, ReadsRow, Row, row_by_der};
+use asn1_rs::{DerParser, Error, SerializeResult};
 use std::alloc::Global;
 
 /// The fields from the identifier of the issuer on.

@@ -5,7 +5,8 @@ ghost use Rattle.asn1_rs.specs.Structs.PartsOfRows.{PartGives, part_of};
 
 use crate::added::{Added, AddedOf};
 use crate::{Name, TbsCertificate};
-use asn1_rs::{BorrowedRow, DerParser, Error, Fields, ReadsRow, Row, SerializeResult, row_by_der};
+use asn1_rs::author::{BorrowedRow, Fields, ReadsRow, Row, row_by_der};
+use asn1_rs::{DerParser, Error, SerializeResult};
 use asn1_rs_messages::{SubjectPublicKeyInfo, Validity};
 use std::alloc::Global;
 

@@ -8,10 +8,13 @@ ghost use Rattle.asn1_rs_certificates.specs.Certificates.{holder_of};
 
 use crate::Name;
 use crate::holder::{Holder, HolderOf};
+use asn1_rs::author::{
+    BorrowedRow, DefaultOf, Fields, FieldsKind, HasKind, HasReader, LawfulStruct, ReadsFields,
+    ReadsRow, Row, StructReader, row_by_der,
+};
 use asn1_rs::{
-    BitString, BorrowedRow, DefaultOf, Defaulted, DerParser, Error, Fields, FieldsKind, HasKind,
-    HasReader, Integer, LawfulStruct, ReadsFields, ReadsRow, Row, SerializeResult, StructReader,
-    TaggedExplicit, TaggedImplicit, row_by_der,
+    BitString, Defaulted, DerParser, Error, Integer, SerializeResult, TaggedExplicit,
+    TaggedImplicit,
 };
 use asn1_rs_messages::{AlgorithmIdentifier, Extension, SubjectPublicKeyInfo, Validity};
 use std::alloc::Global;

@@ -15,10 +15,11 @@ ghost use Rattle.asn1_rs_choices.specs.Laws.Readers.{or_choice_tagged, reads_exa
 ghost use Rattle.asn1_rs_choices.specs.Laws.Readers.{takes_exact, takes_quiet, takes_other, checks_exact};
 
 use crate::told::ToldChoice;
-use asn1_rs::{
-    Any, ArmNumbers, Arms, ChecksChoice, Class, Error, LawfulChoice, ParseResult, ReadsArms,
-    ReadsChoice, ReadsChoiceByBer, Tag, TakesArms, ToldByNumber,
+use asn1_rs::author::{
+    ArmNumbers, Arms, ChecksChoice, LawfulChoice, ReadsArms, ReadsChoice, ReadsChoiceByBer,
+    TakesArms, ToldByNumber,
 };
+use asn1_rs::{Any, Class, Error, ParseResult, Tag};
 use std::alloc::Global;
 
 /// A value of a choice, or one of the others.

@@ -14,7 +14,9 @@ ghost use Rattle.asn1_rs_choices.specs.Parts.{OrChoiceChecks, or_choice};
 
 use crate::arms::OrChoice;
 use crate::told::{ToldChoice, is_of_arm};
-use asn1_rs::{Any, ChecksChoice, Error, LawfulCheck, Never, Or, Tagged};
+use asn1_rs::author::{ChecksChoice, Never, Or};
+use asn1_rs::laws::LawfulCheck;
+use asn1_rs::{Any, Error, Tagged};
 
 /// Arms whose constraints are checked.
 pub trait ChecksArms: Sized {

@@ -4,7 +4,8 @@ ghost use Rattle.asn1_rs.specs.Choices.Data.{AnswersOf};
 
 use crate::arms::OrChoice;
 use crate::told::ToldChoice;
-use asn1_rs::{Any, ChecksChoice, Error, ReadsChoiceByBer, TakesArms};
+use asn1_rs::author::{ChecksChoice, ReadsChoiceByBer, TakesArms};
+use asn1_rs::{Any, Error};
 use std::alloc::Global;
 
 /// Arms that an element converts to by BER.

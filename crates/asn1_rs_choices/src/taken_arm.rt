@@ -18,7 +18,8 @@ ghost use Rattle.asn1_rs.specs.Structs.{is_one_of};
 ghost use Rattle.asn1_rs_choices.specs.Within.{GivesWithin, other_within, tagged_within, takes_within, within};
 
 use crate::told::is_of_arm;
-use asn1_rs::{Any, ArmNumbers, Class, Error, Or, Tag, TakesArms};
+use asn1_rs::author::{ArmNumbers, Or, TakesArms};
+use asn1_rs::{Any, Class, Error, Tag};
 use std::alloc::Global;
 use std::marker::PhantomData;
 

@@ -5,7 +5,8 @@ ghost use Rattle.asn1_rs.specs.Any.{parts_of};
 ghost use Rattle.asn1_rs.specs.Choices.{has_tag, has_a_tag, has_a_class};
 
 use crate::arms::OrChoice;
-use asn1_rs::{Any, Class, LawfulChoice, Never, Or, Tag, Tagged};
+use asn1_rs::author::{LawfulChoice, Never, Or};
+use asn1_rs::{Any, Class, Tag, Tagged};
 
 /// Arms that tell by class and tag number whether an element is of one of them.
 pub trait TellsArms {

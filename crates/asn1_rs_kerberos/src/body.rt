@@ -7,11 +7,11 @@ ghost use Rattle.asn1_rs_kerberos.specs.Requests.{asked_of};
 
 use crate::asked::{Asked, AskedOf};
 use crate::{EncryptedData, HostAddress, PrincipalName, Ticket, Under};
-use asn1_rs::{
-    BitString, BorrowedRow, DerParser, Error, Fields, FieldsKind, GeneralString, GeneralizedTime,
-    HasKind, HasReader, LawfulStruct, ReadsFields, ReadsRow, Row, SerializeResult, StructReader,
-    row_by_der,
+use asn1_rs::author::{
+    BorrowedRow, Fields, FieldsKind, HasKind, HasReader, LawfulStruct, ReadsFields, ReadsRow, Row,
+    StructReader, row_by_der,
 };
+use asn1_rs::{BitString, DerParser, Error, GeneralString, GeneralizedTime, SerializeResult};
 use std::alloc::Global;
 
 /// What is asked for.

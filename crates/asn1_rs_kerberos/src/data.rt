@@ -4,10 +4,11 @@ ghost use Rattle.asn1_rs.specs.Structs.{MadeOf};
 ghost use Rattle.asn1_rs.specs.Structs.Data.{struct_of};
 
 use crate::Under;
-use asn1_rs::{
-    BorrowedRow, DerParser, Error, Fields, FieldsKind, HasKind, HasReader, LawfulStruct,
-    OctetString, ReadsFields, ReadsRow, Row, SerializeResult, StructReader, row_by_der,
+use asn1_rs::author::{
+    BorrowedRow, Fields, FieldsKind, HasKind, HasReader, LawfulStruct, ReadsFields, ReadsRow, Row,
+    StructReader, row_by_der,
 };
+use asn1_rs::{DerParser, Error, OctetString, SerializeResult};
 use std::alloc::Global;
 
 /// Data for the authentication, of a type that says what its octets are (5.2.7).

@@ -4,10 +4,11 @@ ghost use Rattle.asn1_rs.specs.Structs.{MadeOf};
 ghost use Rattle.asn1_rs.specs.Structs.Data.{struct_of};
 
 use crate::{EncryptedData, PrincipalName, Under};
-use asn1_rs::{
-    ApplicationExplicit, BorrowedRow, DerParser, Error, Fields, FieldsKind, GeneralString, HasKind,
-    HasReader, LawfulStruct, ReadsFields, ReadsRow, Row, SerializeResult, StructReader, row_by_der,
+use asn1_rs::author::{
+    BorrowedRow, Fields, FieldsKind, HasKind, HasReader, LawfulStruct, ReadsFields, ReadsRow, Row,
+    StructReader, row_by_der,
 };
+use asn1_rs::{ApplicationExplicit, DerParser, Error, GeneralString, SerializeResult};
 use std::alloc::Global;
 
 /// A ticket: `Ticket ::= [APPLICATION 1] SEQUENCE { .. }`.

@@ -7,11 +7,11 @@ ghost use Rattle.asn1_rs.specs.Structs.DefaultTypes.{default_bool, default_impli
 
 use crate::Octets;
 use crate::matching::{ComparedValue, ComparedValueOf};
-use asn1_rs::{
-    BerParser, BorrowedRow, DefaultOf, Defaulted, Error, Fields, FieldsKind, HasKind, HasReader,
-    LawfulStruct, OctetString, ReadsFieldsByBer, ReadsRow, Row, SerializeResult, StructReader,
-    TaggedImplicit, row_by_ber,
+use asn1_rs::author::{
+    BorrowedRow, DefaultOf, Fields, FieldsKind, HasKind, HasReader, LawfulStruct, ReadsFieldsByBer,
+    ReadsRow, Row, StructReader, row_by_ber,
 };
+use asn1_rs::{BerParser, Defaulted, Error, OctetString, SerializeResult, TaggedImplicit};
 use std::alloc::Global;
 
 /// That an attribute has a value, or one that stands in an order to it.

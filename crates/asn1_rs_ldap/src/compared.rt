@@ -9,11 +9,11 @@ ghost use Rattle.asn1_rs_ldap.specs.Filters.{compared_arms, compared_laws, in_co
 ghost use Rattle.asn1_rs_ldap.specs.declared.compared.Compared.TheVariants as compared;
 
 use crate::AttributeValueAssertion;
-use asn1_rs::{
-    Any, ArmNumbers, ChecksChoice, ChoiceKind, ChoiceReader, Class, DynTagged, Error, HasKind,
-    HasReader, LawfulChoice, Never, OfArms, Or, OrTagged, ReadsChoiceByBer, Tag, TaggedImplicit,
-    ToldByNumber, UsesArm, choice_of_element,
+use asn1_rs::author::{
+    ArmNumbers, ChecksChoice, ChoiceKind, ChoiceReader, HasKind, HasReader, LawfulChoice, Never,
+    OfArms, Or, OrTagged, ReadsChoiceByBer, ToldByNumber, UsesArm, choice_of_element,
 };
+use asn1_rs::{Any, Class, DynTagged, Error, Tag, TaggedImplicit};
 use asn1_rs_choices::{TellsArms, ToldChoice, check_arms};
 use std::alloc::Global;
 

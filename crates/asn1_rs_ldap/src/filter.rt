@@ -17,10 +17,13 @@ use crate::Filter;
 use crate::combined::Combined;
 use crate::compared::Compared;
 use crate::matched::Matched;
+use asn1_rs::author::{
+    ArmNumbers, ChecksChoice, ChoiceKind, ChoiceReader, HasKind, HasReader, LawfulChoice,
+    LawfulType, Never, OfArms, ReadsChoiceByBer, ToldByNumber, UsesArm, choice_of_element,
+};
+use asn1_rs::laws::Grammar;
 use asn1_rs::{
-    Any, ArmNumbers, ChecksChoice, ChoiceKind, ChoiceReader, DynTagged, Error, Grammar, HasKind,
-    HasReader, LawfulChoice, LawfulType, Never, OfArms, ParseResult, ReadsChoiceByBer,
-    SerializeResult, Tag, ToDer, ToldByNumber, UsesArm, choice_of_element, read_ber, strict_vec,
+    Any, DynTagged, Error, ParseResult, SerializeResult, Tag, ToDer, read_ber, strict_vec,
 };
 use asn1_rs_choices::{OrChoice, TakesWhole, check_arms};
 use std::alloc::Global;

@@ -5,9 +5,8 @@ ghost use Rattle.asn1_rs_ldap.specs.Endings.{compared_of};
 
 use crate::Octets;
 use crate::assertion::{DnAttributes, MatchingRuleAssertion, NotOfTheName};
-use asn1_rs::{
-    BerParser, BorrowedRow, Defaulted, Error, Fields, ReadsRow, Row, SerializeResult, row_by_ber,
-};
+use asn1_rs::author::{BorrowedRow, Fields, ReadsRow, Row, row_by_ber};
+use asn1_rs::{BerParser, Defaulted, Error, SerializeResult};
 use std::alloc::Global;
 
 /// The fields from `matchValue` on.

@@ -8,10 +8,14 @@ ghost use Rattle.asn1_rs_ldap.specs.Messages.{message_laws};
 
 use crate::control::Control;
 use crate::operation::Operation;
+use asn1_rs::author::{
+    BorrowedRow, Fields, FieldsKind, HasKind, HasReader, LawfulStruct, ReadsFieldsByBer, ReadsRow,
+    StructReader, row_by_ber,
+};
+use asn1_rs::laws::Grammar;
 use asn1_rs::{
-    BerParser, BorrowedRow, Error, Fields, FieldsKind, FromBer, Grammar, HasKind, HasReader,
-    LawfulStruct, ParseResult, ReadsFieldsByBer, ReadsRow, SerializeResult, StructReader,
-    TaggedImplicit, ToDer, read_ber, read_ber_whole, row_by_ber, strict_vec,
+    BerParser, Error, FromBer, ParseResult, SerializeResult, TaggedImplicit, ToDer, read_ber,
+    read_ber_whole, strict_vec,
 };
 use std::alloc::Global;
 

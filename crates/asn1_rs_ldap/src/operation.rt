@@ -10,10 +10,12 @@ ghost use Rattle.asn1_rs_choices.specs.TaggedStructs.{tagged_checks, tagged_exac
 ghost use Rattle.asn1_rs_ldap.specs.declared.operation.Operation.TheVariants as operations;
 
 use crate::search::SearchRequest;
+use asn1_rs::author::{
+    ArmNumbers, ChoiceKind, ChoiceReader, HasKind, HasReader, LawfulChoice, LawfulType, Never,
+    OfArms, Or, ReadsChoiceByBer, ReadsFieldsByBer, ToldByNumber, UsesArm, choice_of_element,
+};
 use asn1_rs::{
-    Any, ApplicationImplicit, ArmNumbers, CheckDerConstraints, ChoiceKind, ChoiceReader, DynTagged,
-    Error, FromAny, HasKind, HasReader, LawfulChoice, LawfulType, Never, Null, OfArms, Or,
-    ReadsChoiceByBer, ReadsFieldsByBer, Tag, ToldByNumber, UsesArm, choice_of_element,
+    Any, ApplicationImplicit, CheckDerConstraints, DynTagged, Error, FromAny, Null, Tag,
 };
 use asn1_rs_choices::{OrTaken, TakenArm};
 use std::alloc::Global;

@@ -2,7 +2,8 @@
 ghost use Rattle.std.proofs.Common.{refl};
 ghost use Rattle.asn1_rs.specs.Structs.Data.{struct_of};
 
-use asn1_rs::{BorrowedRow, Fields, FieldsKind, HasKind, LawfulStruct, Row, SerializeResult};
+use asn1_rs::SerializeResult;
+use asn1_rs::author::{BorrowedRow, Fields, FieldsKind, HasKind, LawfulStruct, Row};
 
 /// A level, before which a flag may stand.
 ///

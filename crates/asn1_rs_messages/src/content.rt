@@ -6,11 +6,14 @@ ghost use Rattle.asn1_rs.specs.Structs.{MadeOf};
 ghost use Rattle.asn1_rs.specs.Structs.Data.{struct_of};
 ghost use Rattle.asn1_rs.specs.Callers.{ReadsByDer, ReadsByBer, WritesStrict};
 
+use asn1_rs::author::{
+    BorrowedRow, Fields, FieldsKind, HasKind, HasReader, LawfulStruct, OfRow, ReadsFields,
+    ReadsFieldsByBer, ReadsRow, Row, StructReader, struct_by_ber, struct_by_der,
+};
+use asn1_rs::laws::Grammar;
 use asn1_rs::{
-    Any, BerParser, BorrowedRow, DerParser, Error, Fields, FieldsKind, Grammar, HasKind, HasReader,
-    LawfulStruct, OfRow, Oid, ParseResult, ReadsFields, ReadsFieldsByBer, ReadsRow, Row,
-    SerializeResult, SetOf, StructReader, TaggedExplicit, ToDer, read_ber, read_der, strict_vec,
-    struct_by_ber, struct_by_der,
+    Any, BerParser, DerParser, Error, Oid, ParseResult, SerializeResult, SetOf, TaggedExplicit,
+    ToDer, read_ber, read_der, strict_vec,
 };
 use std::alloc::Global;
 

@@ -9,11 +9,14 @@ ghost use Rattle.asn1_rs.specs.Structs.{MadeOf};
 ghost use Rattle.asn1_rs.specs.Structs.Data.{struct_of};
 ghost use Rattle.asn1_rs.specs.Callers.{ReadsByDer, ReadsByBer, WritesStrict};
 
+use asn1_rs::author::{
+    BorrowedRow, Fields, FieldsKind, HasKind, HasReader, LawfulStruct, ReadsFields,
+    ReadsFieldsByBer, ReadsRow, Row, StructReader, row_by_ber, row_by_der,
+};
+use asn1_rs::laws::Grammar;
 use asn1_rs::{
-    BerParser, BorrowedRow, DefaultFalse, Defaulted, DerParser, Error, Fields, FieldsKind, Grammar,
-    HasKind, HasReader, LawfulStruct, OctetString, Oid, ParseResult, ReadsFields, ReadsFieldsByBer,
-    ReadsRow, Row, SerializeResult, StructReader, ToDer, ToStatic, read_ber, read_der, row_by_ber,
-    row_by_der, strict_vec,
+    BerParser, DefaultFalse, Defaulted, DerParser, Error, OctetString, Oid, ParseResult,
+    SerializeResult, ToDer, ToStatic, read_ber, read_der, strict_vec,
 };
 use std::alloc::Global;
 

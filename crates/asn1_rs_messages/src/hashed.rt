@@ -11,10 +11,14 @@ ghost use Rattle.asn1_rs.specs.Callers.{ReadsByDer, WritesStrict};
 ghost use Rattle.asn1_rs_messages.specs.Hashed.{sha256_octets};
 
 use crate::public_key::AlgorithmIdentifier;
+use asn1_rs::author::{
+    BorrowedRow, DefaultOf, Fields, FieldsKind, HasKind, HasReader, KeyType, LawfulStruct, OfRow,
+    ReadsFields, ReadsRow, Row, StructReader, struct_by_der,
+};
+use asn1_rs::laws::Grammar;
 use asn1_rs::{
-    Any, BorrowedRow, DefaultOf, Defaulted, DerParser, Error, Fields, FieldsKind, Grammar, HasKind,
-    HasReader, Integer, KeyType, LawfulStruct, OctetString, OfRow, Oid, ParseResult, ReadsFields,
-    ReadsRow, Row, SerializeResult, StructReader, ToDer, read_der, strict_vec, struct_by_der,
+    Any, Defaulted, DerParser, Error, Integer, OctetString, Oid, ParseResult, SerializeResult,
+    ToDer, read_der, strict_vec,
 };
 use std::alloc::Global;
 use std::borrow::CowSlice;

@@ -7,11 +7,15 @@ ghost use Rattle.asn1_rs.specs.Structs.Keys.{key_of};
 ghost use Rattle.asn1_rs.specs.Structs.Members.{struct_members};
 ghost use Rattle.asn1_rs.specs.Callers.{ReadsByDer, ReadsByBer, WritesStrict};
 
+use asn1_rs::author::{
+    AlwaysDerBy, BorrowedRow, DerRow, Fields, FieldsKind, HasKind, HasReader, KeyType,
+    LawfulStruct, MemberRow, ReadsFields, ReadsFieldsByBer, ReadsRow, Row, StructReader,
+    row_by_ber, row_by_der,
+};
+use asn1_rs::laws::{AlwaysDer, Grammar, LawfulMember};
 use asn1_rs::{
-    AlwaysDer, AlwaysDerBy, BerParser, BorrowedRow, DerParser, DerRow, Error, Fields, FieldsKind,
-    Grammar, HasKind, HasReader, KeyType, LawfulMember, LawfulStruct, MemberRow, ParseResult,
-    ReadsFields, ReadsFieldsByBer, ReadsRow, Row, SerializeResult, StructReader, ToDer, read_ber,
-    read_der, row_by_ber, row_by_der, strict_vec,
+    BerParser, DerParser, Error, ParseResult, SerializeResult, ToDer, read_ber, read_der,
+    strict_vec,
 };
 use std::alloc::Global;
 use std::collections::BTreeSet;

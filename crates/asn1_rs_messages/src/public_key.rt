@@ -8,10 +8,14 @@ ghost use Rattle.asn1_rs.specs.Structs.Keys.{key_of};
 ghost use Rattle.asn1_rs.specs.Structs.Members.{struct_members};
 ghost use Rattle.asn1_rs.specs.Callers.{ReadsByDer, WritesStrict};
 
+use asn1_rs::author::{
+    BorrowedRow, Fields, FieldsKind, HasKind, HasReader, KeyType, LawfulStruct, MemberRow,
+    ReadsFields, ReadsRow, Row, StructReader, row_by_der,
+};
+use asn1_rs::laws::{Grammar, LawfulMember};
 use asn1_rs::{
-    Any, BitString, BorrowedRow, DerParser, Error, Fields, FieldsKind, Grammar, HasKind, HasReader,
-    KeyType, LawfulMember, LawfulStruct, MemberRow, Oid, ParseResult, ReadsFields, ReadsRow, Row,
-    SerializeResult, StructReader, ToDer, read_der, row_by_der, strict_vec,
+    Any, BitString, DerParser, Error, Oid, ParseResult, SerializeResult, ToDer, read_der,
+    strict_vec,
 };
 use std::alloc::Global;
 

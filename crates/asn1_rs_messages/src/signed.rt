@@ -7,11 +7,14 @@ ghost use Rattle.asn1_rs.specs.Structs.Keys.{key_of};
 ghost use Rattle.asn1_rs.specs.Structs.Members.{struct_members};
 ghost use Rattle.asn1_rs.specs.Callers.{ReadsByDer, ReadsByBer, WritesStrict};
 
+use asn1_rs::author::{
+    BorrowedRow, Fields, FieldsKind, HasKind, HasReader, KeyType, LawfulStruct, MemberRow,
+    ReadsFields, ReadsFieldsByBer, ReadsRow, Row, StructReader, row_by_ber, row_by_der,
+};
+use asn1_rs::laws::{Grammar, LawfulMember};
 use asn1_rs::{
-    BerParser, BorrowedRow, DerParser, Error, Explicit, Fields, FieldsKind, Grammar, HasKind,
-    HasReader, Implicit, KeyType, LawfulMember, LawfulStruct, MemberRow, OctetString, ParseResult,
-    ReadsFields, ReadsFieldsByBer, ReadsRow, Row, SerializeResult, StructReader, TaggedParser,
-    ToDer, read_ber, read_der, row_by_ber, row_by_der, strict_vec,
+    BerParser, DerParser, Error, Explicit, Implicit, OctetString, ParseResult, SerializeResult,
+    TaggedParser, ToDer, read_ber, read_der, strict_vec,
 };
 use std::alloc::Global;
 

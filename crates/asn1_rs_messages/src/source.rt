@@ -8,12 +8,15 @@ ghost use Rattle.asn1_rs.specs.Callers.{ReadsByDer, ReadsByBer, WritesStrict};
 ghost use Rattle.asn1_rs_messages.specs.declared.source.Source.TheVariants as sources;
 
 use crate::measurement::Measurement;
+use asn1_rs::author::{
+    AlwaysDerBy, Arms, ChecksChoice, ChoiceKind, ChoiceReader, HasKind, HasReader, LawfulChoice,
+    Never, OfArms, Or, OrTagged, OrUniversal, ReadsArms, ReadsChoice, ReadsChoiceByBer, TakesArms,
+    UsesArm, check_element, choice_by_der, choice_of_element,
+};
+use asn1_rs::laws::{AlwaysDer, Grammar};
 use asn1_rs::{
-    AlwaysDer, AlwaysDerBy, Any, Arms, ChecksChoice, ChoiceKind, ChoiceReader, DynTagged, Error,
-    Grammar, HasKind, HasReader, LawfulChoice, Never, OfArms, Or, OrTagged, OrUniversal,
-    ParseResult, ReadsArms, ReadsChoice, ReadsChoiceByBer, SerializeResult, Tag, TaggedExplicit,
-    TaggedImplicit, TakesArms, ToDer, UsesArm, check_element, choice_by_der, choice_of_element,
-    read_ber, read_der, strict_vec,
+    Any, DynTagged, Error, ParseResult, SerializeResult, Tag, TaggedExplicit, TaggedImplicit,
+    ToDer, read_ber, read_der, strict_vec,
 };
 use std::alloc::Global;
 

@@ -11,11 +11,11 @@ ghost use Rattle.asn1_rs_choices.specs.declared.arms.OrChoice.TheVariants as par
 ghost use Rattle.asn1_rs_snmp.specs.declared.application.ApplicationSyntax.TheVariants as wides;
 
 use crate::numbers::ApplicationNumber;
-use asn1_rs::{
-    Any, ApplicationImplicit, ArmNumbers, Arms, ChecksChoice, ChoiceKind, ChoiceReader, Class,
-    DynTagged, Error, HasKind, HasReader, LawfulChoice, LawfulType, Never, OctetString, OfArms, Or,
-    ReadsChoiceByBer, Tag, ToldByNumber, UsesArm, choice_of_element,
+use asn1_rs::author::{
+    ArmNumbers, Arms, ChecksChoice, ChoiceKind, ChoiceReader, HasKind, HasReader, LawfulChoice,
+    LawfulType, Never, OfArms, Or, ReadsChoiceByBer, ToldByNumber, UsesArm, choice_of_element,
 };
+use asn1_rs::{Any, ApplicationImplicit, Class, DynTagged, Error, OctetString, Tag};
 use asn1_rs_choices::{OrChoice, TellsArms, ToldChoice, check_arms};
 use std::alloc::Global;
 

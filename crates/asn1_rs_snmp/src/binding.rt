@@ -7,10 +7,14 @@ ghost use Rattle.asn1_rs.specs.Whole.{IsWhole};
 ghost use Rattle.asn1_rs_snmp.specs.Messages.{var_bind_laws};
 
 use crate::value::BindingValue;
+use asn1_rs::author::{
+    BorrowedRow, Fields, FieldsKind, HasKind, HasReader, LawfulStruct, ReadsFieldsByBer, ReadsRow,
+    Row, StructReader, row_by_ber,
+};
+use asn1_rs::laws::Grammar;
 use asn1_rs::{
-    BerParser, BorrowedRow, Error, Fields, FieldsKind, Grammar, HasKind, HasReader, LawfulStruct,
-    Oid, ParseResult, ReadsFieldsByBer, ReadsRow, Row, SerializeResult, StructReader, ToDer,
-    read_ber, read_ber_whole, row_by_ber, strict_vec,
+    BerParser, Error, Oid, ParseResult, SerializeResult, ToDer, read_ber, read_ber_whole,
+    strict_vec,
 };
 use std::alloc::Global;
 

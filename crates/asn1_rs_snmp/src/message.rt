@@ -8,10 +8,14 @@ ghost use Rattle.asn1_rs.specs.Whole.{IsWhole, TakesWhole};
 ghost use Rattle.asn1_rs.specs.Callers.{ReadsByBer, WritesStrict};
 
 use crate::pdus::Pdus;
+use asn1_rs::author::{
+    BorrowedRow, Fields, FieldsKind, HasKind, HasReader, LawfulStruct, ReadsFieldsByBer, ReadsRow,
+    Row, StructReader, row_by_ber,
+};
+use asn1_rs::laws::Grammar;
 use asn1_rs::{
-    BerParser, BorrowedRow, Error, Fields, FieldsKind, FromBer, Grammar, HasKind, HasReader,
-    LawfulStruct, OctetString, ParseResult, ReadsFieldsByBer, ReadsRow, Row, SerializeResult,
-    StructReader, ToDer, read_ber, read_ber_whole, row_by_ber, strict_vec,
+    BerParser, Error, FromBer, OctetString, ParseResult, SerializeResult, ToDer, read_ber,
+    read_ber_whole, strict_vec,
 };
 use std::alloc::Global;
 

@@ -10,11 +10,11 @@ ghost use Rattle.asn1_rs_snmp.specs.Pdus.{in_notice_arms, notice_laws};
 ghost use Rattle.asn1_rs_snmp.specs.declared.notices.NoticePdus.TheVariants as notices;
 
 use crate::pdu::Pdu;
-use asn1_rs::{
-    Any, ArmNumbers, ChecksChoice, ChoiceKind, ChoiceReader, Class, DynTagged, Error, HasKind,
-    HasReader, LawfulChoice, Never, OfArms, Or, OrTagged, ReadsChoiceByBer, Tag, TaggedImplicit,
-    ToldByNumber, UsesArm, choice_of_element,
+use asn1_rs::author::{
+    ArmNumbers, ChecksChoice, ChoiceKind, ChoiceReader, HasKind, HasReader, LawfulChoice, Never,
+    OfArms, Or, OrTagged, ReadsChoiceByBer, ToldByNumber, UsesArm, choice_of_element,
 };
+use asn1_rs::{Any, Class, DynTagged, Error, Tag, TaggedImplicit};
 use asn1_rs_choices::{TellsArms, ToldChoice, check_arms};
 use std::alloc::Global;
 

@@ -4,11 +4,11 @@ ghost use Rattle.asn1_rs.specs.Choices.Data.{choice_of, choice_type, numbers_of_
 ghost use Rattle.asn1_rs.specs.declared.choices.arms.Or.TheVariants as arm;
 ghost use Rattle.asn1_rs_snmp.specs.declared.numbers.ApplicationNumber.TheVariants as numbers;
 
-use asn1_rs::{
-    Any, ApplicationImplicit, ArmNumbers, Arms, ChecksChoice, ChoiceKind, ChoiceReader, Class,
-    DynTagged, Error, HasKind, HasReader, LawfulChoice, LawfulType, Never, OfArms, Or,
-    ReadsChoiceByBer, Tag, ToldByNumber, UsesArm, choice_of_element,
+use asn1_rs::author::{
+    ArmNumbers, Arms, ChecksChoice, ChoiceKind, ChoiceReader, HasKind, HasReader, LawfulChoice,
+    LawfulType, Never, OfArms, Or, ReadsChoiceByBer, ToldByNumber, UsesArm, choice_of_element,
 };
+use asn1_rs::{Any, ApplicationImplicit, Class, DynTagged, Error, Tag};
 use asn1_rs_choices::{TellsArms, ToldChoice, check_arms};
 use std::alloc::Global;
 

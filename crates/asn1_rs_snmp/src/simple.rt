@@ -9,11 +9,12 @@ ghost use Rattle.asn1_rs.specs.Choices.Data.{choice_of, ChecksOf, choice_type, n
 ghost use Rattle.asn1_rs.specs.declared.choices.arms.Or.TheVariants as arm;
 ghost use Rattle.asn1_rs_snmp.specs.declared.simple.SimpleSyntax.TheVariants as simples;
 
-use asn1_rs::{
-    Any, ArmNumbers, Arms, ChecksChoice, ChoiceKind, ChoiceReader, Class, DynTagged, Error,
-    HasKind, HasReader, LawfulChoice, LawfulType, Never, OctetString, OfArms, Oid, Or, OrUniversal,
-    ReadsChoiceByBer, Tag, ToldByNumber, UsesArm, choice_of_element,
+use asn1_rs::author::{
+    ArmNumbers, Arms, ChecksChoice, ChoiceKind, ChoiceReader, HasKind, HasReader, LawfulChoice,
+    LawfulType, Never, OfArms, Or, OrUniversal, ReadsChoiceByBer, ToldByNumber, UsesArm,
+    choice_of_element,
 };
+use asn1_rs::{Any, Class, DynTagged, Error, OctetString, Oid, Tag};
 use asn1_rs_choices::{TellsArms, ToldChoice, check_arms};
 use std::alloc::Global;
 

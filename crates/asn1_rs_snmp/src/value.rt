@@ -11,11 +11,12 @@ ghost use Rattle.asn1_rs_choices.specs.declared.arms.OrChoice.TheVariants as par
 ghost use Rattle.asn1_rs_snmp.specs.declared.value.BindingValue.TheVariants as values;
 
 use crate::object::ObjectSyntax;
-use asn1_rs::{
-    Any, ArmNumbers, Arms, ChecksChoice, ChoiceKind, ChoiceReader, Class, DynTagged, Error,
-    HasKind, HasReader, LawfulChoice, LawfulType, Never, Null, OfArms, Or, OrTagged, OrUniversal,
-    ReadsChoiceByBer, Tag, TaggedImplicit, ToldByNumber, UsesArm, choice_of_element,
+use asn1_rs::author::{
+    ArmNumbers, Arms, ChecksChoice, ChoiceKind, ChoiceReader, HasKind, HasReader, LawfulChoice,
+    LawfulType, Never, OfArms, Or, OrTagged, OrUniversal, ReadsChoiceByBer, ToldByNumber, UsesArm,
+    choice_of_element,
 };
+use asn1_rs::{Any, Class, DynTagged, Error, Null, Tag, TaggedImplicit};
 use asn1_rs_choices::{OrChoice, TellsArms, ToldChoice, check_arms};
 use std::alloc::Global;
 

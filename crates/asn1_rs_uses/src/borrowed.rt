@@ -12,9 +12,10 @@ ghost use Rattle.asn1_rs_uses.specs.Borrowed.{LeafByDer, BeginsWithContents, utf
 ghost use Rattle.asn1_rs_uses.specs.Borrowed.{RefusesElement, HasNoText};
 ghost use Rattle.asn1_rs_uses.specs.Numbers.{NoMemory};
 
+use asn1_rs::laws::any_is_the_element;
 use asn1_rs::{
     Any, BitString, Error, FromDer, Integer, OctetString, ParseResult, Sequence, Utf8String,
-    any_is_the_element, read_ber, read_der,
+    read_ber, read_der,
 };
 use std::alloc::Global;
 

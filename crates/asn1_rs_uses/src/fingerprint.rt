@@ -6,10 +6,11 @@ ghost use Rattle.asn1_rs.specs.LeafReading.{leaf_reading};
 ghost use Rattle.asn1_rs.specs.Laws.Leaf.{leaf_exact, leaf_written};
 ghost use Rattle.asn1_rs_uses.specs.Fingerprint.{fingerprint_leaf, fingerprint_lawful};
 
-use asn1_rs::{
-    Any, ConvertsLeaf, DerElement, ElementKind, Error, HasKind, LeafType, Tag, TagNumber, Tagged,
-    WritesOctets, octets_in_hand,
+use asn1_rs::author::{
+    ConvertsLeaf, DerElement, ElementKind, HasKind, LeafType, TagNumber, WritesOctets,
 };
+use asn1_rs::laws::octets_in_hand;
+use asn1_rs::{Any, Error, Tag, Tagged};
 use std::alloc::Global;
 
 /// The fingerprint of a key, an octet string.

@@ -6,9 +6,10 @@ ghost use Rattle.asn1_rs_uses.specs.Handles.{HandleByDer, HandleTakes, HandleChe
 ghost use Rattle.asn1_rs_uses.specs.Handles.{handle_checked, handle_converts};
 ghost use Rattle.asn1_rs_uses.specs.Numbers.{NoMemory};
 
+use asn1_rs::author::{ElementKind, HasKind, LawfulCheckBy, LawfulConversion, LawfulElement};
 use asn1_rs::{
-    Any, CheckDerConstraints, DerAutoDerive, ElementKind, Error, FromAny, HasKind, LawfulCheckBy,
-    LawfulConversion, LawfulElement, ParseResult, TaggedExplicit, TaggedImplicit, read_der,
+    Any, CheckDerConstraints, DerAutoDerive, Error, FromAny, ParseResult, TaggedExplicit,
+    TaggedImplicit, read_der,
 };
 use std::alloc::Global;
 

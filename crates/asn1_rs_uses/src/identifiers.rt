@@ -10,7 +10,8 @@ ghost use Rattle.asn1_rs.specs.Oid.Making.{OidMade, arcs_back};
 ghost use Rattle.asn1_rs_uses.specs.Identifiers.{OidByDer, rsa_octets};
 ghost use Rattle.asn1_rs_uses.specs.Numbers.{NoMemory};
 
-use asn1_rs::{Error, Oid, OidParseError, ParseResult, equal_items_are_hashed_alike, read_der};
+use asn1_rs::laws::equal_items_are_hashed_alike;
+use asn1_rs::{Error, Oid, OidParseError, ParseResult, read_der};
 use std::alloc::Global;
 use std::borrow::CowSlice;
 use std::hash::Hash;

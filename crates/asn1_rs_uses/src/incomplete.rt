@@ -7,9 +7,8 @@ ghost use Rattle.x690.specs.Elements.{Parts, IsHeader, IsDerElement};
 ghost use Rattle.asn1_headers.specs.Answers.{seen, RefusedAsBeginning};
 ghost use Rattle.asn1_headers.specs.Header.{KeepsLent};
 
-use asn1_rs::{
-    Any, Error, FromBer, FromDer, Header, ParseResult, any_is_the_element, beginnings_are_refused,
-};
+use asn1_rs::laws::{any_is_the_element, beginnings_are_refused};
+use asn1_rs::{Any, Error, FromBer, FromDer, Header, ParseResult};
 use std::alloc::Global;
 
 /// The element at the front of the octets, by DER, and what follows it.

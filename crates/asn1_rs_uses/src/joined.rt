@@ -8,10 +8,8 @@ ghost use Rattle.asn1_rs.specs.Set.{items_of};
 ghost use Rattle.asn1_rs_uses.specs.Items.{EndsBefore, BeginsWithNumbers, RefusesNumbers};
 ghost use Rattle.asn1_rs_uses.specs.Numbers.{NumberByDer};
 
-use asn1_rs::{
-    DerParser, Error, FromDer, ParseResult, Sequence, SequenceIterator, SetOf,
-    items_are_joined_words, lists_are_joined_words, walks_take_words,
-};
+use asn1_rs::laws::{items_are_joined_words, lists_are_joined_words, walks_take_words};
+use asn1_rs::{DerParser, Error, FromDer, ParseResult, Sequence, SequenceIterator, SetOf};
 use std::alloc::Global;
 use std::borrow::CowSlice;
 

@@ -8,10 +8,11 @@ ghost use Rattle.asn1_rs_uses.specs.Labels.{label_octets, labels_octets, headed_
 ghost use Rattle.asn1_rs_uses.specs.Labels.{AreEachCall, AreRefused};
 ghost use Rattle.asn1_rs.specs.ToDer.{MayRefuseCount, whole_octets};
 
+use asn1_rs::author::{HasKind, HolderKind, Holds};
+use asn1_rs::laws::{AlwaysDer, LawfulItem, LawfulWrite, counts_are_of_the_strict_encoding};
 use asn1_rs::{
-    AlwaysDer, DerBuffer, DerWrite, Error, Explicit, HasKind, HolderKind, Holds, Implicit,
-    LawfulItem, LawfulWrite, OctetString, SerializeResult, TaggedExplicit, TaggedParser,
-    TaggedValue, ToDer, counts_are_of_the_strict_encoding, strict_vec, write_strict,
+    DerBuffer, DerWrite, Error, Explicit, Implicit, OctetString, SerializeResult, TaggedExplicit,
+    TaggedParser, TaggedValue, ToDer, strict_vec, write_strict,
 };
 use std::alloc::Global;
 

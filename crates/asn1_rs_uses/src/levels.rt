@@ -19,9 +19,10 @@ ghost use Rattle.asn1_rs_uses.specs.declared.levels.Level.{Level};
 ghost use Rattle.asn1_rs_uses.specs.declared.levels.LevelError.{LevelError};
 ghost use Rattle.asn1_rs_uses.specs.declared.levels.LevelError.TheVariants.{Octets};
 
+use asn1_rs::author::{ElementKind, HasKind, LawfulBodyBy, LawfulCheckBy, LawfulElement};
+use asn1_rs::laws::reader_is_exact_by_der;
 use asn1_rs::{
-    Any, CheckDerConstraints, DerAutoDerive, ElementKind, Error, Explicit, FromAny, HasKind,
-    LawfulBodyBy, LawfulCheckBy, LawfulElement, Tag, Tagged, TaggedParser, reader_is_exact_by_der,
+    Any, CheckDerConstraints, DerAutoDerive, Error, Explicit, FromAny, Tag, Tagged, TaggedParser,
 };
 use std::alloc::Global;
 

@@ -10,11 +10,11 @@ ghost use Rattle.asn1_rs.specs.Integer.{IntegerForm, IsUnsigned};
 ghost use Rattle.asn1_headers.specs.Writer.{IsMemoryOrLength};
 ghost use Rattle.asn1_rs_uses.specs.Numbers.{IsStrictNumber, NoMemory, NumberByBer, NumberByDer};
 
-use asn1_rs::{
-    Error, FromBer, FromDer, ParseResult, SerializeResult, ToDer,
+use asn1_rs::laws::{
     counts_are_of_the_strict_encoding, reader_is_exact_by_ber, reader_is_exact_by_der,
-    strict_fronts_are_written_again, strict_vec, words_and_values_are_unique,
+    strict_fronts_are_written_again, words_and_values_are_unique,
 };
+use asn1_rs::{Error, FromBer, FromDer, ParseResult, SerializeResult, ToDer, strict_vec};
 use std::alloc::Global;
 
 /// The number at the front of the octets, by DER, and what follows it.

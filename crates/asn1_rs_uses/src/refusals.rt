@@ -13,9 +13,10 @@ ghost use Rattle.asn1_rs_uses.specs.Refusals.{AsAnyWriting, TellsOfNoClass, Some
 ghost use Rattle.asn1_rs_uses.specs.Refusals.{IsEmptyPart, TellsOfEmptyPart, WrittenEmptyPart, IsMemoryOrLength};
 ghost use Rattle.asn1_rs_uses.specs.Refusals.{SomeEmpty, in_class_writing, part_writing};
 
+use asn1_rs::author::put_all;
 use asn1_rs::{
     Any, Class, DerWrite, DynTagged, Error, Header, Length, SerializeError, SerializeResult, SetOf,
-    Tag, ToDer, put_all,
+    Tag, ToDer,
 };
 use std::alloc::Global;
 use std::collections::BTreeSet;

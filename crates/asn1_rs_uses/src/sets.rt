@@ -9,10 +9,8 @@ ghost use Rattle.asn1_rs_uses.specs.Sequences.{WantsMemory};
 ghost use Rattle.asn1_rs_uses.specs.Sets.{CountedNumbers, DistinctNumbers, DistinctSigned, set_octets};
 ghost use Rattle.asn1_rs_uses.specs.Sets.{signed_set_octets};
 
-use asn1_rs::{
-    AlwaysDer, Error, ParseResult, SerializeResult, SetOf, members_in_hand, read_der, strict_vec,
-    words_and_values_are_unique,
-};
+use asn1_rs::laws::{AlwaysDer, members_in_hand, words_and_values_are_unique};
+use asn1_rs::{Error, ParseResult, SerializeResult, SetOf, read_der, strict_vec};
 use std::alloc::Global;
 use std::collections::{BTreeSet, HashSet};
 

@@ -10,10 +10,8 @@ ghost use Rattle.asn1_rs.specs.Any.{RefusalLasts};
 ghost use Rattle.asn1_rs_uses.specs.Stream.{IsAwaited, NoElementBegins, AnElementBegins};
 ghost use Rattle.asn1_rs_uses.specs.Stream.{RefusesMessage};
 
-use asn1_rs::{
-    Any, Err, Error, FromDer, Needed, ParseResult, answers_last, any_is_the_element,
-    beginnings_are_incomplete,
-};
+use asn1_rs::laws::{answers_last, any_is_the_element, beginnings_are_incomplete};
+use asn1_rs::{Any, Err, Error, FromDer, Needed, ParseResult};
 use std::alloc::Global;
 
 /// How many octets an identifier has at most: the first one, and five digits of a tag number below 2^32.

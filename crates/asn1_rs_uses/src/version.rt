@@ -7,9 +7,10 @@ ghost use Rattle.asn1_rs.specs.Laws.Kinds.{held_takes, held_reads, held_no_memor
 ghost use Rattle.asn1_rs_uses.specs.Numbers.{NoMemory};
 ghost use Rattle.asn1_rs_uses.specs.Version.{VersionByDer};
 
+use asn1_rs::author::{HasKind, HolderKind, Holds, LawfulBodyBy};
+use asn1_rs::laws::{LawfulBody, LawfulCheck, LawfulDer, LawfulMember};
 use asn1_rs::{
-    Any, CheckDerConstraints, Error, FromAny, FromDer, HasKind, HolderKind, Holds, LawfulBody,
-    LawfulBodyBy, LawfulCheck, LawfulDer, LawfulMember, ParseResult, Tagged, TaggedExplicit,
+    Any, CheckDerConstraints, Error, FromAny, FromDer, ParseResult, Tagged, TaggedExplicit,
     read_der,
 };
 use std::alloc::Global;

@@ -24,11 +24,12 @@ use crate::request::{Request, Rule, read_request};
 use crate::shown::{Encoded, push_by_ber, push_by_either, push_leaf, push_reading};
 use crate::text::push_str;
 use crate::types::{TypeName, type_named};
+use asn1_rs::laws::{LawfulBer, LawfulDer};
 use asn1_rs::{
     Any, BitString, BmpString, EmbeddedPdv, EndOfContent, Enumerated, Error, GeneralString,
-    GeneralizedTime, GraphicString, Ia5String, Integer, LawfulBer, LawfulDer, Null, NumericString,
-    ObjectDescriptor, OctetString, Oid, PrintableString, Sequence, Set, Tagged, TeletexString,
-    UniversalString, UtcTime, Utf8String, VideotexString, VisibleString,
+    GeneralizedTime, GraphicString, Ia5String, Integer, Null, NumericString, ObjectDescriptor,
+    OctetString, Oid, PrintableString, Sequence, Set, Tagged, TeletexString, UniversalString,
+    UtcTime, Utf8String, VideotexString, VisibleString,
 };
 use std::alloc::{AllocError, Global};
 

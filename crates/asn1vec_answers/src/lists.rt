@@ -16,7 +16,8 @@ ghost use Rattle.asn1_rs.specs.ToDer.{whole_allocates, whole_octets, whole_refus
 
 use crate::shown::Encoded;
 use crate::text::push_str;
-use asn1_rs::{AlwaysDer, LawfulMember, LawfulWrite, SequenceOf, SetOf};
+use asn1_rs::laws::{AlwaysDer, LawfulMember, LawfulWrite};
+use asn1_rs::{SequenceOf, SetOf};
 use std::alloc::{AllocError, Global};
 use std::collections::{BTreeSet, HashSet};
 

@@ -8,7 +8,7 @@ ghost use Rattle.asn1_rs.specs.ToDer.{whole_allocates};
 
 use crate::shown::Encoded;
 use crate::text::push_number;
-use asn1_rs::LawfulWrite;
+use asn1_rs::laws::LawfulWrite;
 use itoa::Integer;
 use std::alloc::AllocError;
 

@@ -12,7 +12,8 @@ ghost use Rattle.asn1_rs.specs.Grammar.Item.{ber_words};
 
 use crate::shown::{Encoded, Shown, push_written};
 use crate::text::push_str;
-use asn1_rs::{Error, FromBer, FromDer, LawfulBer, LawfulDer, ParseResult, Tagged};
+use asn1_rs::laws::{LawfulBer, LawfulDer};
+use asn1_rs::{Error, FromBer, FromDer, ParseResult, Tagged};
 use std::alloc::{AllocError, Global};
 
 /// Reads an optional value by BER: where one is there, exactly.

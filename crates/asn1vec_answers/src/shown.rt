@@ -13,9 +13,11 @@ ghost use Rattle.asn1_rs.specs.Grammar.Item.{ber_words};
 use crate::names::{push_refusal, push_write_refusal};
 use crate::request::Rule;
 use crate::text::{push_hexadecimal, push_str};
+use asn1_rs::author::ConvertsLeaf;
+use asn1_rs::laws::{Grammar, LawfulBer, LawfulDer, LawfulWrite};
 use asn1_rs::{
-    ConvertsLeaf, Error, FromBer, FromDer, Grammar, LawfulBer, LawfulDer, LawfulWrite, ParseResult,
-    SerializeError, SerializeResult, ToDer, Told, read_ber, read_der,
+    Error, FromBer, FromDer, ParseResult, SerializeError, SerializeResult, ToDer, Told, read_ber,
+    read_der,
 };
 use std::alloc::{AllocError, Global};
 use std::mem;

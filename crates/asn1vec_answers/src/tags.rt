@@ -6,7 +6,8 @@ ghost use Rattle.asn1_rs.specs.ToDer.{whole_allocates};
 
 use crate::lists::writing_is_strict;
 use crate::shown::Encoded;
-use asn1_rs::{AlwaysDer, Error, TaggedExplicit, TaggedImplicit, TakesClass};
+use asn1_rs::laws::{AlwaysDer, TakesClass};
+use asn1_rs::{Error, TaggedExplicit, TaggedImplicit};
 use std::alloc::AllocError;
 
 impl<T: Encoded + AlwaysDer, const TAG: u32> Encoded for TaggedExplicit<T, Error, TAG> {

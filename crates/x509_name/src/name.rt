@@ -22,10 +22,11 @@ ghost use Rattle.x509_name.specs.Name.{HoldsEmpty, StrictName, name_octets, name
 ghost use Rattle.x509_name.specs.RelativeName.{HasNoAttribute, IsSome, RefusedForNone, attributes};
 
 use crate::relative_name::RelativeDistinguishedName;
+use asn1_rs::author::{ElementKind, HasKind, LawfulElement, TagNumber, TaggedAs, refusal_of_count};
+use asn1_rs::laws::{LawfulDer, LawfulItem, LawfulTagged, LawfulWrite};
 use asn1_rs::{
-    DerBuffer, DerWrite, ElementKind, Error, FromDer, HasKind, LawfulDer, LawfulElement,
-    LawfulItem, LawfulTagged, LawfulWrite, ParseResult, SerializeResult, TagNumber, TaggedAs,
-    ToDer, read_der, refusal_of_count, strict_vec, write_strict,
+    DerBuffer, DerWrite, Error, FromDer, ParseResult, SerializeResult, ToDer, read_der, strict_vec,
+    write_strict,
 };
 use std::alloc::Global;
 

@@ -19,10 +19,10 @@ ghost use Rattle.x509_name.specs.RelativeName.{relative_name_element, relative_n
 use crate::attribute::AttributeTypeAndValue;
 use crate::header::{element_len, prepend_header, put_header};
 use crate::set::{prepend_set, write_set};
+use asn1_rs::author::{ElementKind, HasKind, LawfulElement, TagNumber, TaggedAs, refusal_of_count};
+use asn1_rs::laws::{LawfulDer, LawfulItem, LawfulTagged, LawfulWrite};
 use asn1_rs::{
-    DerBuffer, DerWrite, ElementKind, Err, Error, FromDer, HasKind, LawfulDer, LawfulElement,
-    LawfulItem, LawfulTagged, LawfulWrite, ParseResult, SerializeResult, SetOf, Tag, TagNumber,
-    TaggedAs, ToDer, refusal_of_count,
+    DerBuffer, DerWrite, Err, Error, FromDer, ParseResult, SerializeResult, SetOf, Tag, ToDer,
 };
 use std::alloc::Global;
 

@@ -73,7 +73,7 @@ impl ReadsBy for BerParser {
 /// A struct that is a sequence of its fields, in the order of its row.
 ///
 /// So it is written as its fields, one after another, which go straight into the buffer of the whole, the last one
-/// first. It has [`Grammar`](crate::Grammar), [`LawfulItem`](crate::LawfulItem) and the laws of
+/// first. It has [`Grammar`](crate::laws::Grammar), [`LawfulItem`](crate::laws::LawfulItem) and the laws of
 /// writing and of tags. It is read where it has [`ReadsFields`].
 ///
 ///     impl LawfulStruct for Measurement {

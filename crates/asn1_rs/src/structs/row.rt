@@ -223,7 +223,7 @@ impl<'s, F: WritesField, R: BorrowedRow> BorrowedRow for (&'s F, R) {
 
 /// A row of references to fields whose values in hand are all in DER form.
 ///
-/// So a struct of such fields has [`AlwaysDer`](crate::AlwaysDer):
+/// So a struct of such fields has [`AlwaysDer`](crate::laws::AlwaysDer):
 ///
 ///     impl AlwaysDerBy<FieldsKind> for Measurement {
 ///         fn der_by_kind(&self) {
