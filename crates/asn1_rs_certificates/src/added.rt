@@ -1,7 +1,6 @@
 //! The last three fields of what is signed, as a part of its row. Later versions added them.
-ghost use Rattle.asn1_rs.specs.Structs.{by_der, puts_of};
+ghost use Rattle.asn1_rs.specs.Prelude.{by_der, part_of, PartGives, puts_of};
 ghost use Rattle.asn1_rs_certificates.specs.Certificates.{added_of};
-ghost use Rattle.asn1_rs.specs.Structs.PartsOfRows.{PartGives, part_of};
 
 use crate::{Extensions, IssuerUniqueId, SubjectUniqueId, TbsCertificate};
 use asn1_rs::author::{BorrowedRow, Fields, ReadsRow, Row, row_by_der};

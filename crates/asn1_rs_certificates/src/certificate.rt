@@ -1,10 +1,5 @@
 //! A certificate whole (RFC 5280, 4.1).
-ghost use Rattle.std.proofs.Common.{refl};
-ghost use Rattle.asn1_headers.specs.Answers.{seen};
-ghost use Rattle.asn1_rs.specs.Structs.{MadeOf};
-ghost use Rattle.asn1_rs.specs.Structs.Data.{struct_of};
-ghost use Rattle.asn1_rs.specs.Whole.{IsWhole, TakesWhole};
-ghost use Rattle.asn1_rs.specs.Callers.{ReadsByDer, WritesStrict};
+ghost use Rattle.asn1_rs.specs.Prelude.{IsWhole, MadeOf, ReadsByDer, refl, seen, struct_of, TakesWhole, WritesStrict};
 
 use crate::TbsCertificate;
 use asn1_rs::author::{

@@ -1,12 +1,8 @@
 //! A choice, or the other arms behind it.
 ghost use Rattle.std.specs.Prelude.{◌≡◌, ◌≢◌, ◌++◌, ℕ, List, Err};
 ghost use Rattle.asn1_headers.specs.Answers.{IsOther};
-ghost use Rattle.asn1_headers.specs.Error.{HeldIn};
-ghost use Rattle.asn1_headers.specs.declared.error.Error.{Error};
-ghost use Rattle.asn1_headers.specs.declared.error.Error.TheVariants.{OutOfMemory};
-ghost use Rattle.asn1_rs.specs.Any.{parts_of};
-ghost use Rattle.asn1_rs.specs.Choices.{has_a_tag};
-ghost use Rattle.asn1_rs.specs.Choices.Data.{ReadsChoiceAlso, TakesChoiceAlso, ChecksOf, grammar_of_choice};
+ghost use Rattle.asn1_rs.specs.Prelude.{ChecksOf, Error, has_a_tag, HeldIn, OutOfMemory, parts_of};
+ghost use Rattle.asn1_rs.specs.Choices.Data.{ReadsChoiceAlso, TakesChoiceAlso, grammar_of_choice};
 ghost use Rattle.asn1_rs.specs.Laws.Choices.Readers.{choice_checks};
 ghost use Rattle.asn1_rs.specs.Laws.Structs.Rows.{or_neither};
 ghost use Rattle.asn1_rs_choices.specs.Parts.{or_choice, OrChoiceReads, OrChoiceGives, OrChoiceChecks};

@@ -1,7 +1,7 @@
 //! A choice on the heap.
 ghost use Rattle.std.specs.Prelude.{◌≡◌, IfOk, IfErr};
 ghost use Rattle.asn1_headers.specs.declared.error.Error.TheVariants as errors;
-ghost use Rattle.asn1_rs.specs.Choices.Data.{choice_type};
+ghost use Rattle.asn1_rs.specs.Prelude.{choice_type};
 ghost use Rattle.asn1_rs_choices.specs.Heap.{boxed, held_in};
 
 use crate::told::ToldChoice;

@@ -1,5 +1,6 @@
 //! Arms that an element converts to, whichever class it is of.
-ghost use Rattle.asn1_rs.specs.Choices.{ChoiceGives, choice_grammar};
+ghost use Rattle.asn1_rs.specs.Prelude.{ChoiceGives};
+ghost use Rattle.asn1_rs.specs.Choices.{choice_grammar};
 ghost use Rattle.asn1_rs.specs.Choices.Data.{AnswersOf};
 
 use crate::arms::OrChoice;

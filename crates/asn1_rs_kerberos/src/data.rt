@@ -1,7 +1,5 @@
 //! What a request carries beside names: data for the authentication, addresses and what is encrypted (RFC 4120, 5.2).
-ghost use Rattle.std.proofs.Common.{refl};
-ghost use Rattle.asn1_rs.specs.Structs.{MadeOf};
-ghost use Rattle.asn1_rs.specs.Structs.Data.{struct_of};
+ghost use Rattle.asn1_rs.specs.Prelude.{MadeOf, refl, struct_of};
 
 use crate::Under;
 use asn1_rs::author::{

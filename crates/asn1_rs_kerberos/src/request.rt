@@ -1,11 +1,7 @@
 //! The request whole (RFC 4120, 5.4.1).
 ghost use Rattle.std.specs.Prelude.{MatchResult};
-ghost use Rattle.std.proofs.Common.{refl};
-ghost use Rattle.asn1_headers.specs.Answers.{seen};
-ghost use Rattle.asn1_rs.specs.Structs.{MadeOf};
-ghost use Rattle.asn1_rs.specs.Structs.Data.{struct_of};
+ghost use Rattle.asn1_rs.specs.Prelude.{MadeOf, ReadsByDer, refl, seen, struct_of, WritesStrict};
 ghost use Rattle.asn1_rs_kerberos.specs.Requests.{IsAsReq, IsNoAsReq};
-ghost use Rattle.asn1_rs.specs.Callers.{ReadsByDer, WritesStrict};
 
 use crate::{KdcReqBody, PaData, Under};
 use asn1_rs::author::{

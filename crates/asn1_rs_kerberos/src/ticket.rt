@@ -1,7 +1,5 @@
 //! Tickets (RFC 4120, 5.3).
-ghost use Rattle.std.proofs.Common.{refl};
-ghost use Rattle.asn1_rs.specs.Structs.{MadeOf};
-ghost use Rattle.asn1_rs.specs.Structs.Data.{struct_of};
+ghost use Rattle.asn1_rs.specs.Prelude.{MadeOf, refl, struct_of};
 
 use crate::{EncryptedData, PrincipalName, Under};
 use asn1_rs::author::{

@@ -1,5 +1,5 @@
 //! Filters that hold others, as a part of the choice of filters.
-ghost use Rattle.asn1_rs.specs.Choices.Data.{choice_numbers, numbers_of_choice};
+ghost use Rattle.asn1_rs.specs.Prelude.{choice_numbers, numbers_of_choice};
 ghost use Rattle.asn1_rs_choices.specs.Parts.Data.{arm_of_choice};
 ghost use Rattle.asn1_rs_ldap.specs.Filters.{combined_laws, in_combined_arms};
 ghost use Rattle.asn1_rs_ldap.specs.declared.combined.Combined.TheVariants as combined;

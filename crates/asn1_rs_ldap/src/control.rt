@@ -1,5 +1,5 @@
 //! Controls, which extend an operation (RFC 4511, 4.1.11).
-ghost use Rattle.asn1_rs.specs.Structs.{MadeOf};
+ghost use Rattle.asn1_rs.specs.Prelude.{MadeOf};
 ghost use Rattle.asn1_rs_ldap.specs.Controls.{control_laws};
 
 use asn1_rs::author::{

@@ -1,10 +1,7 @@
 //! Filters of parts of values, of attributes that are there, and of rules. They are a part of the choice of filters.
-ghost use Rattle.asn1_rs.specs.Choices.{has_a_class, has_a_tag};
-ghost use Rattle.asn1_rs.specs.Any.{parts_of};
-ghost use Rattle.asn1_headers.specs.Class.{class_number};
-ghost use Rattle.asn1_rs.specs.Structs.{is_one_of};
+ghost use Rattle.asn1_rs.specs.Prelude.{ChecksOf, choice_numbers, class_number, has_a_class, has_a_tag, is_one_of};
+ghost use Rattle.asn1_rs.specs.Prelude.{numbers_of_choice, parts_of};
 ghost use Rattle.std.specs.Prelude.{◌≡◌};
-ghost use Rattle.asn1_rs.specs.Choices.Data.{ChecksOf, choice_numbers, numbers_of_choice};
 ghost use Rattle.asn1_rs_ldap.specs.Filters.{in_matched_arms, matched_arms, matched_laws};
 ghost use Rattle.asn1_rs_ldap.specs.declared.matched.Matched.TheVariants as matched;
 

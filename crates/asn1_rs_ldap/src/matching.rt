@@ -1,6 +1,5 @@
 //! What a rule compares, as a part of the row of an assertion by a rule.
-ghost use Rattle.asn1_rs.specs.Structs.{by_ber, puts_of};
-ghost use Rattle.asn1_rs.specs.Structs.PartsOfRows.{PartGives, part_of};
+ghost use Rattle.asn1_rs.specs.Prelude.{by_ber, part_of, PartGives, puts_of};
 ghost use Rattle.asn1_rs_ldap.specs.Endings.{compared_of};
 
 use crate::Octets;

@@ -1,9 +1,5 @@
 //! Messages (RFC 4511, 4.1.1).
-ghost use Rattle.asn1_headers.specs.Answers.{seen};
-ghost use Rattle.asn1_rs.specs.Callers.{ReadsByBer, WritesStrict};
-ghost use Rattle.asn1_rs.specs.Grammar.Item.{ber_words};
-ghost use Rattle.asn1_rs.specs.Structs.{MadeOf};
-ghost use Rattle.asn1_rs.specs.Whole.{IsWhole, TakesWhole};
+ghost use Rattle.asn1_rs.specs.Prelude.{ber_words, IsWhole, MadeOf, ReadsByBer, seen, TakesWhole, WritesStrict};
 ghost use Rattle.asn1_rs_ldap.specs.Messages.{message_laws};
 
 use crate::control::Control;

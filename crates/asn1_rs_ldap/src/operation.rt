@@ -1,8 +1,6 @@
 //! What is asked of a server (RFC 4511, 4.2 to 4.14).
 ghost use Rattle.std.specs.Prelude.{◌≡◌};
-ghost use Rattle.asn1_rs.specs.Any.{parts_of};
-ghost use Rattle.asn1_rs.specs.Structs.{is_one_of};
-ghost use Rattle.asn1_rs.specs.Choices.Data.{choice_numbers, choice_type, numbers_of_choice};
+ghost use Rattle.asn1_rs.specs.Prelude.{choice_numbers, choice_type, is_one_of, numbers_of_choice, parts_of};
 ghost use Rattle.asn1_rs_ldap.specs.Operations.{in_operation_arms, operation_laws};
 ghost use Rattle.asn1_rs_ldap.specs.Searches.{search_laws};
 ghost use Rattle.asn1_rs_choices.specs.TaggedStructs.{ChecksTagged, TakesTagged, tagged_struct};

@@ -1,5 +1,5 @@
 //! A search (RFC 4511, 4.5.1).
-ghost use Rattle.asn1_rs.specs.Structs.{MadeOf};
+ghost use Rattle.asn1_rs.specs.Prelude.{MadeOf};
 ghost use Rattle.asn1_rs_ldap.specs.Endings.{wanted_of};
 ghost use Rattle.asn1_rs_ldap.specs.Searches.{search_laws};
 

@@ -1,8 +1,5 @@
 //! Filters of parts of texts (RFC 4511, 4.5.1.7.2).
-ghost use Rattle.std.proofs.Common.{refl};
-ghost use Rattle.asn1_rs.specs.Choices.Data.{choice_of, choice_type};
-ghost use Rattle.asn1_rs.specs.Structs.{MadeOf};
-ghost use Rattle.asn1_rs.specs.Structs.Data.{struct_of};
+ghost use Rattle.asn1_rs.specs.Prelude.{choice_of, choice_type, MadeOf, refl, struct_of};
 ghost use Rattle.asn1_rs.specs.declared.choices.arms.Or.TheVariants as arm;
 ghost use Rattle.asn1_rs_ldap.specs.declared.substrings.Substring.TheVariants as substrings;
 

@@ -1,9 +1,5 @@
 //! A message with two optional fields and a list, by both rules.
-ghost use Rattle.std.proofs.Common.{refl};
-ghost use Rattle.asn1_headers.specs.Answers.{seen};
-ghost use Rattle.asn1_rs.specs.Structs.{MadeOf};
-ghost use Rattle.asn1_rs.specs.Structs.Data.{struct_of};
-ghost use Rattle.asn1_rs.specs.Callers.{ReadsByDer, ReadsByBer, WritesStrict};
+ghost use Rattle.asn1_rs.specs.Prelude.{MadeOf, ReadsByBer, ReadsByDer, refl, seen, struct_of, WritesStrict};
 
 use asn1_rs::author::{
     AlwaysDerBy, BorrowedRow, DerRow, Fields, FieldsKind, HasKind, HasReader, LawfulStruct,

@@ -1,10 +1,7 @@
 //! A choice of values under tags and of a struct, by both rules.
-ghost use Rattle.std.proofs.Common.{refl};
-ghost use Rattle.asn1_headers.specs.Answers.{seen};
-ghost use Rattle.asn1_rs.specs.Choices.{ChoiceReads, ChoiceGives};
-ghost use Rattle.asn1_rs.specs.Choices.Data.{choice_of};
+ghost use Rattle.asn1_rs.specs.Prelude.{choice_of, ChoiceGives, ChoiceReads, ReadsByBer, ReadsByDer, refl, seen};
+ghost use Rattle.asn1_rs.specs.Prelude.{WritesStrict};
 ghost use Rattle.asn1_rs.specs.declared.choices.arms.Or.TheVariants as arm;
-ghost use Rattle.asn1_rs.specs.Callers.{ReadsByDer, ReadsByBer, WritesStrict};
 ghost use Rattle.asn1_rs_messages.specs.declared.source.Source.TheVariants as sources;
 
 use crate::measurement::Measurement;

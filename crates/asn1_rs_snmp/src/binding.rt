@@ -1,9 +1,5 @@
 //! Variable bindings (RFC 3416, 3).
-ghost use Rattle.asn1_headers.specs.Answers.{seen};
-ghost use Rattle.asn1_rs.specs.Callers.{ReadsByBer, WritesStrict};
-ghost use Rattle.asn1_rs.specs.Grammar.Item.{ber_words};
-ghost use Rattle.asn1_rs.specs.Structs.{MadeOf};
-ghost use Rattle.asn1_rs.specs.Whole.{IsWhole};
+ghost use Rattle.asn1_rs.specs.Prelude.{ber_words, IsWhole, MadeOf, ReadsByBer, seen, WritesStrict};
 ghost use Rattle.asn1_rs_snmp.specs.Messages.{var_bind_laws};
 
 use crate::value::BindingValue;

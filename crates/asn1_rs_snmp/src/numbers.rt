@@ -1,6 +1,5 @@
 //! Numbers under tags of the application class (RFC 3416, 3).
-ghost use Rattle.std.proofs.Common.{refl};
-ghost use Rattle.asn1_rs.specs.Choices.Data.{choice_of, choice_type, numbers_of_choice, choice_numbers};
+ghost use Rattle.asn1_rs.specs.Prelude.{choice_numbers, choice_of, choice_type, numbers_of_choice, refl};
 ghost use Rattle.asn1_rs.specs.declared.choices.arms.Or.TheVariants as arm;
 ghost use Rattle.asn1_rs_snmp.specs.declared.numbers.ApplicationNumber.TheVariants as numbers;
 

@@ -1,5 +1,5 @@
 //! What requests and answers hold (RFC 3416, 3).
-ghost use Rattle.asn1_rs.specs.Structs.{MadeOf};
+ghost use Rattle.asn1_rs.specs.Prelude.{MadeOf};
 ghost use Rattle.asn1_rs_snmp.specs.Pdus.{bulk_pdu_laws, pdu_laws};
 
 use crate::binding::VarBind;

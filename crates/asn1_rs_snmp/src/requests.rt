@@ -1,10 +1,7 @@
 //! What is asked of an agent (RFC 3416, 3).
 ghost use Rattle.std.specs.Prelude.{◌≡◌};
-ghost use Rattle.asn1_headers.specs.Class.{class_number};
-ghost use Rattle.asn1_rs.specs.Any.{parts_of};
-ghost use Rattle.asn1_rs.specs.Choices.{has_a_tag, has_a_class};
-ghost use Rattle.asn1_rs.specs.Structs.{is_one_of};
-ghost use Rattle.asn1_rs.specs.Choices.Data.{ChecksOf, numbers_of_choice, choice_numbers};
+ghost use Rattle.asn1_rs.specs.Prelude.{ChecksOf, choice_numbers, class_number, has_a_class, has_a_tag, is_one_of};
+ghost use Rattle.asn1_rs.specs.Prelude.{numbers_of_choice, parts_of};
 ghost use Rattle.asn1_rs_choices.specs.Parts.Data.{arm_of_choice};
 ghost use Rattle.asn1_rs_snmp.specs.Pdus.{in_request_arms, request_laws};
 ghost use Rattle.asn1_rs_snmp.specs.declared.requests.RequestPdus.TheVariants as requests;

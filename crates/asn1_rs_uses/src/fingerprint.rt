@@ -1,6 +1,6 @@
 //! A lawful type of a caller's that borrows its contents octets.
 ghost use Rattle.std.specs.Prelude.{◌≡◌};
-ghost use Rattle.asn1_rs.specs.Any.{parts_of};
+ghost use Rattle.asn1_rs.specs.Prelude.{parts_of};
 ghost use Rattle.asn1_rs.specs.Checks.{is_primitive};
 ghost use Rattle.asn1_rs.specs.LeafReading.{leaf_reading};
 ghost use Rattle.asn1_rs.specs.Laws.Leaf.{leaf_exact, leaf_written};

@@ -1,13 +1,11 @@
 //! Numbers by BER and by DER, with the theorems in words of numbers.
 ghost use Rattle.std.specs.Prelude.{◌≡◌, ◌≢◌, ◌<◌, ◌≤◌, ◌^◌, ◌++◌, ◌↔◌, ◌⊎◌, ℕ, ℤ, List, length, pos, IfOk, IfErr};
 ghost use Rattle.std.specs.Prelude.{IsTrue, MatchResult};
-ghost use Rattle.x690.specs.Identifiers.{Identifier, IsCutIdentifier};
-ghost use Rattle.asn1_headers.specs.Answers.{seen, Exactly, RefusedBeforeEnd};
-ghost use Rattle.asn1_headers.specs.Ber.{EndsWithin};
-ghost use Rattle.asn1_headers.specs.Error.{HeldIn};
+ghost use Rattle.asn1_rs.specs.Prelude.{EndsWithin, Exactly, HeldIn, IsCutIdentifier, IsMemoryOrLength, seen};
+ghost use Rattle.x690.specs.Identifiers.{Identifier};
+ghost use Rattle.asn1_headers.specs.Answers.{RefusedBeforeEnd};
 ghost use Rattle.asn1_headers.specs.declared.error.Error.TheVariants as errors;
 ghost use Rattle.asn1_rs.specs.Integer.{IntegerForm, IsUnsigned};
-ghost use Rattle.asn1_headers.specs.Writer.{IsMemoryOrLength};
 ghost use Rattle.asn1_rs_uses.specs.Numbers.{IsStrictNumber, NoMemory, NumberByBer, NumberByDer};
 
 use asn1_rs::laws::{

@@ -1,6 +1,6 @@
 //! A list of a caller's: it is read as the library's lists are.
 ghost use Rattle.std.specs.Prelude.{◌≡◌, MatchResult};
-ghost use Rattle.asn1_headers.specs.Answers.{seen};
+ghost use Rattle.asn1_rs.specs.Prelude.{seen};
 
 use asn1_rs::author::{AnyForm, FromItems, HasKind, HasReader, ListReader, SequenceKind};
 use asn1_rs::{Error, FromDer, ParseResult, Tag, Tagged};

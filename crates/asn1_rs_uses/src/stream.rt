@@ -1,8 +1,7 @@
 //! Messages in a buffer that a stream fills.
 ghost use Rattle.std.specs.Prelude.{◌≡◌, ◌⊎◌, ◌≤◌, ◌<◌, length, true, false, IfOk, IfErr, Ok};
 ghost use Rattle.x690.specs.Elements.{IsDerElement};
-ghost use Rattle.x690.specs.Identifiers.{IsCutIdentifier};
-ghost use Rattle.asn1_headers.specs.Answers.{seen};
+ghost use Rattle.asn1_rs.specs.Prelude.{IsCutIdentifier, seen};
 ghost use Rattle.asn1_headers.specs.Error.{IsCut};
 ghost use Rattle.asn1_headers.specs.declared.error.Err.TheVariants.{Error as refused};
 ghost use Rattle.asn1_headers.specs.declared.error.Error.TheVariants as errors;

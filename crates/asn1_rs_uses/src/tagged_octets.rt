@@ -1,7 +1,7 @@
 //! Borrowed octets under a tag whose number is told at run time. They are read where they are optional, and by the
 //! readers of one tag number.
 ghost use Rattle.std.specs.Prelude.{◌≡◌, IfOk, IfErr, IsOk, MatchOption};
-ghost use Rattle.asn1_headers.specs.Answers.{seen};
+ghost use Rattle.asn1_rs.specs.Prelude.{seen};
 ghost use Rattle.asn1_rs.specs.OctetString.{octets_of};
 ghost use Rattle.asn1_rs_uses.specs.TaggedOctets.{BeginsUnderTag, BeginsUnderNumber, BeginsWithContentsUnder};
 ghost use Rattle.asn1_rs_uses.specs.TaggedOctets.{RefusesOctetsUnder, RefusesStringUnder};

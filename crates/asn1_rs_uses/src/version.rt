@@ -1,7 +1,6 @@
 //! A lawful type of a caller's that holds a lawful value, tag and all, and hands every call on to it.
 ghost use Rattle.std.specs.Prelude.{◌≡◌, pos};
-ghost use Rattle.x690.specs.Identifiers.{IsCutIdentifier};
-ghost use Rattle.asn1_headers.specs.Answers.{Exactly, seen};
+ghost use Rattle.asn1_rs.specs.Prelude.{Exactly, IsCutIdentifier, seen};
 ghost use Rattle.asn1_rs.specs.Kinds.{HoldingGives, HoldingReads};
 ghost use Rattle.asn1_rs.specs.Laws.Kinds.{held_takes, held_reads, held_no_memory};
 ghost use Rattle.asn1_rs_uses.specs.Numbers.{NoMemory};

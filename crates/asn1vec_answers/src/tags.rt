@@ -2,7 +2,7 @@
 ghost use Rattle.asn1_rs.specs.Tagged.Explicit.{ExplicitForm};
 ghost use Rattle.asn1_rs.specs.Tagged.Implicit.{ImplicitForm};
 ghost use Rattle.asn1vec_answers.specs.Shown.{StrictEncodingIfAny};
-ghost use Rattle.asn1_rs.specs.ToDer.{whole_allocates};
+ghost use Rattle.asn1_rs.specs.Prelude.{whole_allocates};
 
 use crate::lists::writing_is_strict;
 use crate::shown::Encoded;

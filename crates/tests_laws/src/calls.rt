@@ -1,7 +1,7 @@
 //! Each law is called, at a type where it has one. Which types take no memory is told too. What a call asks is proved
 //! at each of these.
 ghost use Rattle.std.specs.Prelude.{◌≡◌, false};
-ghost use Rattle.asn1_rs.specs.ToDer.{whole_allocates};
+ghost use Rattle.asn1_rs.specs.Prelude.{whole_allocates};
 
 use asn1_rs::author::{AnyForm, BmpKind, Ia5Kind};
 use asn1_rs::laws::{

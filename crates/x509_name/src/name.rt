@@ -3,12 +3,10 @@ ghost use Rattle.std.specs.Prelude.{◌≡◌, ◌<◌, ◌^◌, ◌++◌, ℕ, 
 ghost use Rattle.std.specs.Io.KnownBytes.{Appends};
 ghost use Rattle.std.specs.List.{All};
 ghost use Rattle.std.proofs.Common.{lit<};
-ghost use Rattle.x690.specs.Identifiers.{IsCutIdentifier};
+ghost use Rattle.asn1_rs.specs.Prelude.{Error, Exactly, IsCutIdentifier, IsMemoryOrLength, seen, SerializeError};
+ghost use Rattle.asn1_rs.specs.Prelude.{Wrote};
 ghost use Rattle.x690.specs.Collections.{Multiset};
-ghost use Rattle.asn1_headers.specs.Answers.{Exactly, ReadsBack, seen};
-ghost use Rattle.asn1_headers.specs.Writer.{IsMemoryOrLength, Wrote};
-ghost use Rattle.asn1_headers.specs.declared.error.Error.{Error};
-ghost use Rattle.asn1_headers.specs.declared.error.SerializeError.{SerializeError};
+ghost use Rattle.asn1_headers.specs.Answers.{ReadsBack};
 ghost use Rattle.asn1_headers.specs.declared.error.SerializeError.TheVariants as serialize_errors;
 ghost use Rattle.asn1_rs.specs.ToDer.{RefusedAtOnce, Refuses};
 ghost use Rattle.asn1_rs.specs.Laws.Lists.{takes_some};

@@ -2,10 +2,7 @@
 ghost use Rattle.std.specs.Prelude.{◌≡◌, ◌↔◌, ◌+◌, [], ◌∷◌, length, map, true, IsTrue, IfErr, IsErr};
 ghost use Rattle.std.specs.Prelude.{MatchOption, MatchResult};
 ghost use Rattle.std.proofs.Common.{lit<};
-ghost use Rattle.asn1_headers.specs.Prepended.{Prepended};
-ghost use Rattle.asn1_headers.specs.Writer.{Wrote, MayRefuse};
-ghost use Rattle.asn1_headers.specs.declared.error.Error.{Error};
-ghost use Rattle.asn1_headers.specs.declared.error.SerializeError.{SerializeError};
+ghost use Rattle.asn1_rs.specs.Prelude.{Error, MayRefuse, Prepended, SerializeError, Wrote};
 ghost use Rattle.asn1_rs.specs.ToDer.{RefusedAtOnce, Refuses};
 ghost use Rattle.asn1_rs.specs.Laws.Lists.{takes_some};
 ghost use Rattle.asn1_rs.specs.Set.{set_content};
