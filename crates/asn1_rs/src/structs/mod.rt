@@ -13,6 +13,7 @@
 
 pub(crate) mod defaulted;
 pub(crate) mod field;
+pub(crate) mod flat;
 pub(crate) mod keys;
 pub(crate) mod leaves_by_ber;
 pub(crate) mod leaves_by_der;

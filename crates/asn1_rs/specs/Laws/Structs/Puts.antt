@@ -1,9 +1,12 @@
--- An optional field is put as what it holds, and nothing is put where it holds nothing.
-use Rattle.std.proofs.Common.{◌≡◌, refl, ℕ, List, [], Option, None, Some, inl, inr}
+-- Fields that are put: an optional field is put as what it holds, and a row field by field, both ways.
+use Rattle.std.proofs.Common.{◌≡◌, ◌∙◌, refl, sym, ℕ, true, false, List, [], Option, None, Some, inl, inr}
 use Rattle.std.specs.Prelude.{Result, Ok, Err, IsErr}
+use Rattle.std.proofs.lemmas.Bool.{false≢true}
 use Rattle.asn1_headers.specs.declared.error.SerializeError.{SerializeError}
-use Rattle.asn1_rs.specs.Fields.{TakenFields, counted, prepended, takes, PutsField, WritingRefuses}
+use Rattle.asn1_rs.specs.Fields.{TakenFields, counted, goes_back, prepended, takes, PutsField, WritingRefuses}
 use Rattle.asn1_rs.specs.Optional.{option_writing}
+use Rattle.asn1_rs.specs.Structs.{PutList, none_put, put_then}
+use Rattle.asn1_rs.specs.Structs.Flat.{PutsRow}
 use Rattle.asn1_rs.specs.ToDer.{Writing, whole_refuses}
 
 none_taken : (t : TakenFields) → t ≡ takes [] t
@@ -34,3 +37,33 @@ held_put w x old new answer p = record {
   uncounted = p.uncounted;
   accepted = p.accepted;
 }
+
+pub end_puts : (old : TakenFields) → PutsRow none_put old old (Ok tt)
+end_puts old = record { puts = (refl, refl) }
+
+module _ {T : Type 0} (w : Writing T) (x : T) (rest : PutList) where
+  pub forward_ok : (old mid new : TakenFields) (answer : Result (Unit {0}) SerializeError) → goes_back old ≡ false →
+      PutsField w x old mid (Ok tt) → PutsRow rest mid new answer → PutsRow (put_then w x rest) old new answer
+  forward_ok old mid new answer g p r = record {
+    puts = (λ _. (mid, Ok tt, p, r.puts), λ t. absurd (false≢true (sym g ∙ t)));
+  }
+
+  pub forward_err : (old new : TakenFields) (e : SerializeError) → goes_back old ≡ false →
+      PutsField w x old new (Err e) → PutsRow (put_then w x rest) old new (Err e)
+  forward_err old new e g p = record {
+    puts = (λ _. (new, Err e, p, refl), λ t. absurd (false≢true (sym g ∙ t)));
+  }
+
+  pub backward_ok : (old mid new : TakenFields) (answer : Result (Unit {0}) SerializeError) → goes_back old ≡ true →
+      PutsRow rest old mid (Ok tt) → PutsField w x mid new answer → PutsRow (put_then w x rest) old new answer
+  backward_ok old mid new answer g r p = record {
+    puts = (λ f. absurd (false≢true (sym f ∙ g)), λ _. (mid, Ok tt, r.puts, p));
+  }
+
+  pub backward_err : (old new : TakenFields) (e : SerializeError) → goes_back old ≡ true →
+      PutsRow rest old new (Err e) → PutsRow (put_then w x rest) old new (Err e)
+  backward_err old new e g r = record {
+    puts = (λ f. absurd (false≢true (sym f ∙ g)), λ _. (new, Err e, r.puts, (refl, refl)));
+  }
+
+pub ruleset both_ways = (end_puts, forward_ok, forward_err, backward_ok, backward_err)
