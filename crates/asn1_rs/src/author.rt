@@ -32,6 +32,18 @@ pub use crate::structs::defaulted::DefaultOf;
 pub use crate::structs::field::{
     FieldIsDer, FieldType, ItemType, LawfulType, ReadsField, WritesField,
 };
+pub use crate::structs::flat::in_der::{
+    in_der1, in_der2, in_der3, in_der4, in_der5, in_der6, in_der7, in_der8, in_der9, in_der10,
+    in_der11, in_der12, in_der13, in_der14, in_der15, in_der16,
+};
+pub use crate::structs::flat::in_hand::{
+    in_hand1, in_hand2, in_hand3, in_hand4, in_hand5, in_hand6, in_hand7, in_hand8, in_hand9,
+    in_hand10, in_hand11, in_hand12, in_hand13, in_hand14, in_hand15, in_hand16,
+};
+pub use crate::structs::flat::puts::{
+    put1, put2, put3, put4, put5, put6, put7, put8, put9, put10, put11, put12, put13, put14, put15,
+    put16,
+};
 pub use crate::structs::keys::KeyType;
 pub use crate::structs::members::{MemberRow, MemberType};
 pub use crate::structs::numbers::ToldByNumber;

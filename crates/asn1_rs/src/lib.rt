@@ -40,6 +40,7 @@ mod header;
 mod kinds;
 pub mod laws;
 mod length;
+mod macros;
 mod structs;
 mod to_der;
 mod to_static;
