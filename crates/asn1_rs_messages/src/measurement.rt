@@ -3,14 +3,13 @@ ghost use Rattle.asn1_rs.specs.Prelude.{key_of, MadeOf, ReadsByBer, ReadsByDer, 
 ghost use Rattle.asn1_rs.specs.Prelude.{struct_of, struct_type, WritesStrict};
 
 use asn1_rs::author::{
-    AlwaysDerBy, BorrowedRow, DerRow, Fields, FieldsKind, HasKind, HasReader, KeyType,
-    LawfulStruct, MemberRow, ReadsFields, ReadsFieldsByBer, ReadsRow, Row, StructReader,
-    row_by_ber, row_by_der,
+    AlwaysDerBy, Fields, FieldsKind, HasKind, HasReader, KeyType, LawfulStruct, MemberRow,
+    ReadsFields, ReadsFieldsByBer, ReadsRow, Row, StructReader,
 };
 use asn1_rs::laws::{AlwaysDer, Grammar, LawfulMember};
 use asn1_rs::{
-    BerParser, DerParser, Error, ParseResult, SerializeResult, ToDer, read_ber, read_der,
-    strict_vec,
+    BerParser, DerParser, Error, ParseResult, SerializeResult, ToDer, fields_in_der,
+    fields_in_hand, put_fields, read_ber, read_der, read_fields, strict_vec,
 };
 use std::alloc::Global;
 use std::collections::BTreeSet;
@@ -44,11 +43,11 @@ impl LawfulStruct for Measurement {
         ⟦<MeasurementRow as Row>⟧.row_laws refl };
 
     fn put_row(&self, fields: &mut Fields) -> SerializeResult<()> {
-        (&self.place, (&self.value, (&self.error, ()))).put_each(fields)
+        put_fields!(self, fields => place, value, error)
     }
 
     fn row_in_hand(&self) {
-        (&self.place, (&self.value, (&self.error, ()))).each_in_hand()
+        fields_in_hand!(self => place, value, error)
     }
 }
 
@@ -57,17 +56,7 @@ impl<'a> ReadsFields<'a> for Measurement {
         ⟦<MeasurementRow as ReadsRow<'a, DerParser>>⟧.row_gives };
 
     fn read_fields(alloc: Global, octets: &'a [u8]) -> Result<Measurement, Error> {
-        match row_by_der(alloc, octets) {
-            Ok(row) => {
-                let (place, (value, (error, ()))) = row;
-                Ok(Measurement {
-                    place,
-                    value,
-                    error,
-                })
-            }
-            Err(e) => Err(e),
-        }
+        read_fields!(row_by_der, alloc, octets => Measurement { place, value, error })
     }
 }
 
@@ -76,24 +65,14 @@ impl<'a> ReadsFieldsByBer<'a> for Measurement {
         ⟦<MeasurementRow as ReadsRow<'a, BerParser>>⟧.row_gives };
 
     fn read_fields_by_ber(alloc: Global, octets: &'a [u8]) -> Result<Measurement, Error> {
-        match row_by_ber(alloc, octets) {
-            Ok(row) => {
-                let (place, (value, (error, ()))) = row;
-                Ok(Measurement {
-                    place,
-                    value,
-                    error,
-                })
-            }
-            Err(e) => Err(e),
-        }
+        read_fields!(row_by_ber, alloc, octets => Measurement { place, value, error })
     }
 }
 
 /// Each measurement in hand is in DER form, since its fields are.
 impl AlwaysDerBy<FieldsKind> for Measurement {
     fn der_by_kind(&self) {
-        (&self.place, (&self.value, (&self.error, ()))).each_is_der()
+        fields_in_der!(self => place, value, error)
     }
 }
 

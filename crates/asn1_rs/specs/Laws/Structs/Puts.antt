@@ -1,5 +1,5 @@
 -- Fields that are put: an optional field is put as what it holds, and a row field by field, both ways.
-use Rattle.std.proofs.Common.{◌≡◌, ◌∙◌, refl, sym, ℕ, true, false, List, [], Option, None, Some, inl, inr}
+use Rattle.std.proofs.Common.{◌≡◌, ◌∙◌, ap, arith, refl, subst, sym, ℕ, true, false, List, [], Option, None, Some, inl, inr}
 use Rattle.std.specs.Prelude.{Result, Ok, Err, IsErr}
 use Rattle.std.proofs.lemmas.Bool.{false≢true}
 use Rattle.asn1_headers.specs.declared.error.SerializeError.{SerializeError}
@@ -10,7 +10,7 @@ use Rattle.asn1_rs.specs.Structs.Flat.{PutsRow}
 use Rattle.asn1_rs.specs.ToDer.{Writing, whole_refuses}
 
 none_taken : (t : TakenFields) → t ≡ takes [] t
-none_taken (counted n) = refl
+none_taken (counted n) = ap counted (omega arith)
 none_taken (prepended o) = refl
 
 none_refused : {S : Type 0} (w : Writing S) (t : TakenFields) (e : SerializeError) →
@@ -24,19 +24,25 @@ nothing_put w t = record {
   taken = λ tells. none_taken t;
   refused = λ tells. tt;
   left = λ tells. tt;
-  uncounted = λ e tells refuses. refuses;
-  accepted = λ e tells refuses. none_refused w t e refuses;
+  uncounted = λ e tells refuses. absurd refuses;
+  accepted = λ e tells refuses. absurd (none_refused w t e refuses);
 }
 
-pub held_put : {S : Type 0} (w : Writing S) (x : S) (old new : TakenFields) (answer : Result (Unit {0}) SerializeError) →
+some_put : {S : Type 0} (w : Writing S) (x : S) (old new : TakenFields) (answer : Result (Unit {0}) SerializeError) →
     PutsField w x old new answer → PutsField (option_writing w) (Some x) old new answer
-held_put w x old new answer p = record {
+some_put w x old new answer p = record {
   taken = p.taken;
   refused = p.refused;
   left = p.left;
   uncounted = p.uncounted;
   accepted = p.accepted;
 }
+
+pub held_put : {S : Type 0} (w : Writing S) (o : Option S) (x : S) → o ≡ Some x → (old new : TakenFields)
+    (answer : Result (Unit {0}) SerializeError) → PutsField w x old new answer →
+    PutsField (option_writing w) o old new answer
+held_put w o x is old new answer p =
+    subst (λ o. PutsField (option_writing w) o old new answer) (sym is) (some_put w x old new answer p)
 
 pub end_puts : (old : TakenFields) → PutsRow none_put old old (Ok tt)
 end_puts old = record { puts = (refl, refl) }
