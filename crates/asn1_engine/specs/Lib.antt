@@ -6,6 +6,7 @@ pub mod Heads
 pub mod Inner
 pub mod Lines
 pub mod Messages
+pub mod Documents
 pub mod Objects
 pub mod Pem
 pub mod Plain

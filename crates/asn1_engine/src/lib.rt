@@ -2,6 +2,7 @@
 #![tactic(auto)]
 
 pub mod departures;
+pub mod documents;
 mod elements;
 pub mod error;
 pub mod heads;
