@@ -276,6 +276,39 @@ def refusals(program, room):
             yield f"{task}, {name}, standard error", run(program, task, path).stderr.decode(), line
 
 
+# Forms, what a file holds, the status, and what `check` says of it.
+FORMS = [
+    ("hex", b"30 03\r\n02 01 05\n", 0, "FILE: strict DER"),
+    ("hex", b"3003020105zz", 1, "asn1: FILE: no hexadecimal"),
+    ("hex", b"300", 1, "asn1: FILE: no hexadecimal"),
+    ("hex", b"", 1, "asn1: FILE: the file is empty"),
+    ("hex", b" \n", 1, "FILE: octet 0: octets are missing (X.690 8.1.1); there stands: nothing; "
+     "right is: all octets that the length counts"),
+    ("hex", b"308204d20500", 1, "FILE: octet 0: octets are missing: of 1234 octets, 2 are there "
+     "(X.690 8.1.1); there stands: 30 82 04 d2 05 00; right is: all octets that the length counts"),
+    ("hex", b"3082", 1, "FILE: octet 0: octets are missing (X.690 8.1.1); there stands: 30 82; "
+     "right is: all octets that the length counts"),
+    ("hex", b"3003040500 0000", 1, "FILE: octet 2: octets are missing: of 5 octets, 3 are there "
+     "(X.690 8.1.1); there stands: 04 05 00 00 00; right is: all octets that the length counts"),
+    ("hex", b"3003040500 0000000000", 1, "FILE: octet 2: octets are missing (X.690 8.1.1); "
+     "there stands: 04 05 00 00 00 00 00; right is: all octets that the length counts"),
+    ("base64", b"MAMC\n AQU=", 0, "FILE: strict DER"), ("base64", b"MAMCAQU", 1, "asn1: FILE: no base64"),
+    ("pem", b"MAMCAQU=\n", 1, "asn1: FILE: no block of PEM"),
+    ("pem", b"\n-----BEGIN A B-----\nMAMCAQU=\n-----END A B-----\n", 0, "FILE: A B in line 2: strict DER"),
+    ("der", b"0\3\2\1\5", 0, "FILE: strict DER"), ("der", b"", 1, "asn1: FILE: the file is empty"),
+]
+
+
+def forms(program, room):
+    """Yields what is told of files by the form that they are read in."""
+    path = room / "form"
+    for form, octets, status, line in FORMS:
+        path.write_bytes(octets)
+        ended = run(program, "check", "--from", form, path)
+        told = (ended.stdout + ended.stderr).decode().splitlines()[:1]
+        yield f"--from {form}, {octets}", (ended.returncode, told), (status, [line.replace("FILE", str(path))])
+
+
 def failures(program, room):
     """Yields how calls and devices that fail end, each with one line on standard error."""
     data = FOLDER / "data/certificate.pem"
@@ -411,8 +444,8 @@ def main():
     with tempfile.TemporaryDirectory(prefix="asn1-") as name:
         room, wrong, count = pathlib.Path(name), 0, 0
         program = sys.argv[1]
-        for rows in (trees(program), odd_files(program, room), refusals(program, room), failures(program, room),
-                     modules(program, room), values(program, room), certificates(program),
+        for rows in (trees(program), odd_files(program, room), refusals(program, room), forms(program, room),
+                     failures(program, room), modules(program, room), values(program, room), certificates(program),
                      verdicts(program, room, 5000)):
             for what, seen, expected in rows:
                 count += 1

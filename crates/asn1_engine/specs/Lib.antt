@@ -10,6 +10,7 @@ pub mod Documents
 pub mod Objects
 pub mod Pem
 pub mod Plain
+pub mod Shortfalls
 pub mod Texts
 pub mod Trees
 pub mod Values

@@ -12,6 +12,7 @@ pub mod objects;
 pub mod outcome;
 pub mod pem;
 pub mod plain;
+mod shortfalls;
 pub mod standing;
 pub mod tags;
 pub mod texts;
