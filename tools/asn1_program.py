@@ -30,6 +30,10 @@ class Departs(Exception):
     """The octets are not strict DER: the offset and the section."""
 
 
+class Follows(Departs):
+    """Octets follow the element."""
+
+
 def element(octets, at, end):
     """Returns class, form, number, the offset of the contents and that of their end, by DER."""
     def octet(place, section):
@@ -143,22 +147,37 @@ def judge(octets):
             at = begins
             around.append(ends)
     if end < len(octets):
-        raise Departs(end, "8.1.1")
+        raise Follows(end, "8.1.1")
 
 
 def model(octets):
-    """Returns the offset and the section of the first departure, and what stands there; or nothing."""
+    """Returns the offset and the section of the first departure, the counts, and what stands there; or nothing."""
     try:
         judge(octets)
     except Departs as departs:
-        return *departs.args, standing(octets, departs.args[0])
+        at, section = departs.args
+        is_cut = section == "8.1.1" and not isinstance(departs, Follows)
+        return at, section, counts(octets[at:]) if is_cut else None, standing(octets, at)
     return None
+
+
+def counts(word):
+    """Returns how many octets the length at the front counts, and how many follow it, where these are fewer."""
+    try:
+        _, _, _, begins, ends = element(word + bytes(200), 0, 2 ** 65)
+    except Departs:
+        return None
+    return (ends - begins, len(word) - begins) if begins <= len(word) < ends else None
 
 
 def told(line):
     """Returns the same of a line of `check`."""
-    found = re.search(rb": octet (\d+): .* \(X\.690 ([0-9., ]+)\); there stands: ([^;]*); right is: ", line)
-    return (int(found[1]), found[2].decode(), found[3].decode()) if found else None
+    found = re.search(rb": octet (\d+): .*?(?:: of (\d+) octets, (\d+) are there)? \(X\.690 ([0-9., ]+)\); "
+                      rb"there stands: ([^;]*); right is: ", line)
+    if not found:
+        return None
+    cut = (int(found[2]), int(found[3])) if found[2] else None
+    return int(found[1]), found[4].decode(), cut, found[5].decode()
 
 
 def standing(octets, at):
