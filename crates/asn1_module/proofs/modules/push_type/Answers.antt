@@ -1,0 +1,8 @@
+use Rattle.std.proofs.Common.{◌<◌, subst, sym}
+use Rattle.std.specs.Prelude.{All}
+use Rattle.std.proofs.lemmas.List.Elements.{All-push}
+use Rattle.asn1_module.proofs.modules.push_type.Goals as goal
+
+pub returns : goal.returns
+returns c = λ all is.
+    subst (All (λ t. t.of < c.args.count)) (sym c.in_ok-push.ensures.items) (All-push _ _ _ all is)
