@@ -168,9 +168,9 @@ impl<'s, 't> Rows<'s, 't> {
         entry: TypeEntry<'t>,
         component: Component<'t>,
     ) -> Result<usize, ModuleError> {
-        let is_set = match entry.syntax {
-            TypeSyntax::Sequence(_) => false,
-            TypeSyntax::Set(_) => true,
+        let (is_set, wrong) = match entry.syntax {
+            TypeSyntax::Sequence(_) => (false, Wrong::NotSequence),
+            TypeSyntax::Set(_) => (true, Wrong::NotSet),
             _ => return Err(component.place.error(Wrong::Expected("the name of an arm"))),
         };
         let mut at = component.of;
@@ -181,26 +181,38 @@ impl<'s, 't> Rows<'s, 't> {
             match of.syntax {
                 TypeSyntax::Sequence(_) if !is_set => return Ok(at),
                 TypeSyntax::Set(_) if is_set => return Ok(at),
-                TypeSyntax::Tagged(_, _, inner) => at = inner,
-                TypeSyntax::Within(inner, _, _) => at = inner,
-                TypeSyntax::Reference(from, name) => {
-                    match self.scopes.resolve(syntax, of.module, from, name) {
-                        None => return Err(self.scopes.unknown(of.module, name, of.place)),
-                        Some(assignment) => match assignment.meaning {
-                            Meaning::Type(inner) => at = inner,
-                            _ => break,
-                        },
-                    }
-                }
-                _ => break,
+                _ => (),
+            }
+            match self.behind(syntax, of)? {
+                Some(inner) => at = inner,
+                None => break,
             }
         }
-        let wrong = if is_set {
-            Wrong::NotSet
-        } else {
-            Wrong::NotSequence
-        };
         Err(component.place.error(wrong))
+    }
+
+    /// The type in the tag or the constraint of another one, or the one that its name stands for. A parameter has none.
+    fn behind(
+        &self,
+        syntax: &Syntax<'t>,
+        of: &TypeEntry<'t>,
+    ) -> Result<Option<usize>, ModuleError> {
+        let (from, name) = match of.syntax {
+            TypeSyntax::Tagged(_, _, inner) => return Ok(Some(inner)),
+            TypeSyntax::Within(inner, _, _) => return Ok(Some(inner)),
+            TypeSyntax::Reference(from, name) => (from, name),
+            _ => return Ok(None),
+        };
+        if from.is_none() && self.scopes.is_parameter(of.module, of.owner, name) {
+            return Ok(None);
+        }
+        match self.scopes.resolve(syntax, of.module, from, name) {
+            None => Err(self.scopes.unknown(of.module, name, of.place)),
+            Some(assignment) => match assignment.meaning {
+                Meaning::Type(inner) => Ok(Some(inner)),
+                _ => Ok(None),
+            },
+        }
     }
 
     /// Puts components behind those of other types, with tags by their order where they get these.

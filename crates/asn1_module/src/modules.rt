@@ -111,7 +111,7 @@ fn push_type<'t>(
     named: ModuleType<'t>,
     count: usize,
 ) -> Result<(), ModuleError>
-    ensures { HavePlaces types.old.items count → named.of < count →
+    ensures { HavePlaces types.old.items count → named.entry.of < count →
         OnOk result (HavePlaces types.new.items count) }
 {
     types.push(named)?;

@@ -68,7 +68,7 @@ impl<'s, 't> Texts<'s, 't> {
             match entry.syntax {
                 ValueSyntax::Integer(number) => return Some(number),
                 ValueSyntax::Reference(from, name) => {
-                    if let Some(number) = self.governed(entry, name) {
+                    if let (None, Some(number)) = (from, self.governed(entry, name)) {
                         return Some(number);
                     }
                     next = self.named_value(entry.module, from, name)?;
