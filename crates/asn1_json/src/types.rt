@@ -2,13 +2,14 @@
 ghost use Rattle.std.specs.Prelude.{ℤ, ◌≡◌, MatchOption, Some, None, length, slice_get, option_and_then, nat_lt, true, ◌<◌, ◌^◌};
 ghost use Rattle.std.specs.Ordering.{int_eq};
 ghost use Rattle.asn1_schema.specs.Cursor.{IsNumber};
+ghost use Rattle.asn1_json.specs.DenotedLeaves.{number_named};
 ghost use Rattle.asn1_json.specs.Leaves.{name_of};
 ghost use Rattle.asn1_json.specs.Types.{inner_type, kind_at, innermost, resolved, labels_at, fields_of, arms_of};
 ghost use Rattle.asn1_json.specs.Types.{is_any};
 ghost use Rattle.asn1_json.specs.Tokens.{seen, type_of_arm, type_of_field};
 ghost use Rattle.asn1_json.specs.Tokens.{count_of_fields, type_of_unknown, type_of_members};
 
-use asn1_schema::names::{PartName, TypeNames};
+use asn1_schema::names::{PartName, TypeNames, place_of};
 use asn1_schema::schema::{Field, Kind, Node};
 
 /// A table, and the names beside it.
@@ -113,6 +114,15 @@ impl<'s, 'n> Types<'s, 'n> {
         name_of(names.labels.as_slice(), number)
     }
 
+    /// The number that the first part of a type with a name stands for.
+    pub(crate) fn number(self, at: usize, name: &str) -> Option<i128>
+        ensures { result ≡ number_named (labels_at self.entry.names.now (Some at)) name.now }
+    {
+        let labels = self.names.get(at)?.labels.as_slice();
+        let place = place_of(labels, name)?;
+        Some(labels[place].number)
+    }
+
     /// The type of the members of a list; none where it is no list.
     pub fn of_members(self, at: Option<usize>) -> Option<usize>
         ensures { result ≡ type_of_members (seen self.entry) at }
@@ -125,7 +135,7 @@ impl<'s, 'n> Types<'s, 'n> {
     }
 
     /// The fields of a row.
-    fn fields(self, at: Option<usize>) -> &'s [Field]
+    pub(crate) fn fields(self, at: Option<usize>) -> &'s [Field]
         ensures { result.now ≡ fields_of (kind_at self.entry.table.now at) }
     {
         match self.kind(at) {
@@ -165,7 +175,7 @@ impl<'s, 'n> Types<'s, 'n> {
     }
 
     /// The arms of a choice.
-    fn arms(self, at: Option<usize>) -> &'s [usize]
+    pub(crate) fn arms(self, at: Option<usize>) -> &'s [usize]
         ensures { result.now ≡ arms_of (kind_at self.entry.table.now at) }
     {
         match self.kind(at) {

@@ -1,0 +1,305 @@
+//! Values without parts, from JSON.
+
+use crate::reading::arcs::{has_arcs, identifier_content};
+use crate::reading::bits::{bits_of, hexadecimal};
+use crate::reading::characters::{character_octets, text_octets};
+use crate::reading::integers::integer_content;
+use crate::reading::made::JsonTape;
+use crate::reading::trail::{Fault, Reason, Trail};
+use crate::types::Types;
+use asn1_headers::buffer::DerBuffer;
+use asn1_headers::der::element_by_der;
+use asn1_schema::encode::{EncodeError, encode_der};
+use asn1_schema::schema::{Kind, TextKind, TimeKind};
+use asn1_schema::tape::Item;
+use json::Value;
+use std::alloc::Global;
+use x690::signed::signed_into;
+
+/// What JSON is read by.
+#[derive(Debug, Clone, Copy)]
+pub(super) struct By<'s, 'n> {
+    /// Where memory comes from.
+    pub(super) alloc: Global,
+    /// The table, and the names beside it.
+    pub(super) types: Types<'s, 'n>,
+    /// Elements of the encoding may nest so deep.
+    pub(super) depth: usize,
+}
+
+/// Tells whether a tape is that of a value of a type that has a strict encoding.
+pub(super) fn judge(
+    by: By<'_, '_>,
+    of: usize,
+    tape: &[Item<'_>],
+    trail: &mut Trail,
+) -> Result<(), Fault> {
+    let mut buf = DerBuffer::new(by.alloc);
+    match encode_der(by.types.table, of, by.depth, tape, &mut buf) {
+        Ok(()) => Ok(()),
+        Err(EncodeError::OutOfMemory) => Err(Fault::Memory),
+        Err(EncodeError::Refused) => Err(trail.refused(of, Reason::Value)),
+    }
+}
+
+/// Puts a value without parts on a tape, where it is one of the type that has a strict encoding.
+fn put(
+    by: By<'_, '_>,
+    of: usize,
+    item: Item<'_>,
+    made: &mut JsonTape,
+    trail: &mut Trail,
+) -> Result<(), Fault> {
+    judge(by, of, &[item], trail)?;
+    made.push(&item)?;
+    Ok(())
+}
+
+/// A truth value.
+fn read_boolean(
+    by: By<'_, '_>,
+    of: usize,
+    value: &Value<'_>,
+    made: &mut JsonTape,
+    trail: &mut Trail,
+) -> Result<(), Fault> {
+    match value {
+        Value::Bool(truth) => put(by, of, Item::Boolean(*truth), made, trail),
+        _ => Err(trail.refused(of, Reason::Boolean)),
+    }
+}
+
+/// No value.
+fn read_null(
+    by: By<'_, '_>,
+    of: usize,
+    value: &Value<'_>,
+    made: &mut JsonTape,
+    trail: &mut Trail,
+) -> Result<(), Fault> {
+    match value {
+        Value::Null => put(by, of, Item::Null, made, trail),
+        _ => Err(trail.refused(of, Reason::Null)),
+    }
+}
+
+/// An integer.
+fn read_integer(
+    by: By<'_, '_>,
+    of: usize,
+    value: &Value<'_>,
+    made: &mut JsonTape,
+    trail: &mut Trail,
+) -> Result<(), Fault> {
+    let Value::Number(text) = value else {
+        return Err(trail.refused(of, Reason::Integer));
+    };
+    match integer_content(by.alloc, text)? {
+        Some(content) => put(by, of, Item::Integer(&content), made, trail),
+        None => Err(trail.refused(of, Reason::Integer)),
+    }
+}
+
+/// A listed number by its name.
+fn read_name(
+    by: By<'_, '_>,
+    of: usize,
+    at: usize,
+    name: &str,
+    made: &mut JsonTape,
+    trail: &mut Trail,
+) -> Result<(), Fault> {
+    let Some(number) = by.types.number(at, name) else {
+        return Err(trail.refused(of, Reason::Listed));
+    };
+    let mut content = [0; 17];
+    let start = signed_into(number, &mut content);
+    let octets = &content[start..];
+    put(by, of, Item::Enumerated(octets), made, trail)
+}
+
+/// A listed number: by its name, or as a number.
+fn read_listed(
+    by: By<'_, '_>,
+    of: usize,
+    at: usize,
+    value: &Value<'_>,
+    made: &mut JsonTape,
+    trail: &mut Trail,
+) -> Result<(), Fault> {
+    match value {
+        Value::String(name) => read_name(by, of, at, name, made, trail),
+        Value::Number(text) => match integer_content(by.alloc, text)? {
+            Some(content) => put(by, of, Item::Enumerated(&content), made, trail),
+            None => Err(trail.refused(of, Reason::Listed)),
+        },
+        _ => Err(trail.refused(of, Reason::Listed)),
+    }
+}
+
+/// A bit string.
+fn read_bits(
+    by: By<'_, '_>,
+    of: usize,
+    value: &Value<'_>,
+    made: &mut JsonTape,
+    trail: &mut Trail,
+) -> Result<(), Fault> {
+    let Value::Object(members) = value else {
+        return Err(trail.refused(of, Reason::Bits));
+    };
+    match bits_of(by.alloc, members)? {
+        Some((unused, octets)) => put(by, of, Item::Bits(unused, &octets), made, trail),
+        None => Err(trail.refused(of, Reason::Bits)),
+    }
+}
+
+/// An octet string.
+fn read_octets(
+    by: By<'_, '_>,
+    of: usize,
+    text: &str,
+    made: &mut JsonTape,
+    trail: &mut Trail,
+) -> Result<(), Fault> {
+    match hexadecimal(by.alloc, text)? {
+        Some(octets) => put(by, of, Item::Octets(&octets), made, trail),
+        None => Err(trail.refused(of, Reason::Octets)),
+    }
+}
+
+/// An identifier: by its arcs, or in hexadecimal where these are too large to be shown.
+fn read_identifier(
+    by: By<'_, '_>,
+    of: usize,
+    relative: bool,
+    text: &str,
+    made: &mut JsonTape,
+    trail: &mut Trail,
+) -> Result<(), Fault> {
+    let content = if has_arcs(relative, text) {
+        identifier_content(by.alloc, relative, text)?
+    } else {
+        hexadecimal(by.alloc, text)?
+    };
+    match content {
+        Some(content) => put(by, of, Item::Identifier(relative, &content), made, trail),
+        None => Err(trail.refused(of, Reason::Identifier)),
+    }
+}
+
+/// A character string.
+fn read_text(
+    by: By<'_, '_>,
+    of: usize,
+    kind: TextKind,
+    text: &str,
+    made: &mut JsonTape,
+    trail: &mut Trail,
+) -> Result<(), Fault> {
+    match text_octets(by.alloc, kind, text)? {
+        Some(octets) => put(by, of, Item::Text(kind, &octets), made, trail),
+        None => Err(trail.refused(of, Reason::Text)),
+    }
+}
+
+/// A time.
+fn read_time(
+    by: By<'_, '_>,
+    of: usize,
+    kind: TimeKind,
+    text: &str,
+    made: &mut JsonTape,
+    trail: &mut Trail,
+) -> Result<(), Fault> {
+    match character_octets(by.alloc, text)? {
+        Some(octets) => put(by, of, Item::Time(kind, &octets), made, trail),
+        None => Err(trail.refused(of, Reason::Value)),
+    }
+}
+
+/// The one element that octets are, as an item.
+fn element_of(octets: &[u8]) -> Option<Item<'_>> {
+    match element_by_der(octets) {
+        Ok((rest, (header, content))) => {
+            if !rest.is_empty() {
+                return None;
+            }
+            let class = header.class().number();
+            Some(Item::Any(class, header.constructed(), header.tag().0, content))
+        }
+        Err(_) => None,
+    }
+}
+
+/// An element of any type.
+fn read_element(
+    by: By<'_, '_>,
+    of: usize,
+    text: &str,
+    made: &mut JsonTape,
+    trail: &mut Trail,
+) -> Result<(), Fault> {
+    let Some(octets) = hexadecimal(by.alloc, text)? else {
+        return Err(trail.refused(of, Reason::Element));
+    };
+    match element_of(&octets) {
+        Some(item) => put(by, of, item, made, trail),
+        None => Err(trail.refused(of, Reason::Element)),
+    }
+}
+
+/// Why JSON is refused that is no string.
+fn no_string(kind: &Kind) -> Reason {
+    match kind {
+        Kind::Octets => Reason::Octets,
+        Kind::Identifier(_) => Reason::Identifier,
+        Kind::Text(_) => Reason::Text,
+        Kind::Time(_) => Reason::Time,
+        Kind::Any => Reason::Element,
+        _ => Reason::MissingType,
+    }
+}
+
+/// A value that is shown as a string.
+fn read_string(
+    by: By<'_, '_>,
+    of: usize,
+    kind: &Kind,
+    value: &Value<'_>,
+    made: &mut JsonTape,
+    trail: &mut Trail,
+) -> Result<(), Fault> {
+    let Value::String(text) = value else {
+        return Err(trail.refused(of, no_string(kind)));
+    };
+    match kind {
+        Kind::Octets => read_octets(by, of, text, made, trail),
+        Kind::Identifier(relative) => read_identifier(by, of, *relative, text, made, trail),
+        Kind::Text(kind) => read_text(by, of, *kind, text, made, trail),
+        Kind::Time(kind) => read_time(by, of, *kind, text, made, trail),
+        Kind::Any => read_element(by, of, text, made, trail),
+        _ => Err(trail.refused(of, Reason::MissingType)),
+    }
+}
+
+/// Puts the value without parts that JSON denotes on a tape. `of` is the place of its type, and `at` that of the type
+/// that all tags and bounds are on.
+pub(super) fn read_leaf(
+    by: By<'_, '_>,
+    of: usize,
+    at: usize,
+    kind: &Kind,
+    value: &Value<'_>,
+    made: &mut JsonTape,
+    trail: &mut Trail,
+) -> Result<(), Fault> {
+    match kind {
+        Kind::Boolean => read_boolean(by, of, value, made, trail),
+        Kind::Null => read_null(by, of, value, made, trail),
+        Kind::Integer => read_integer(by, of, value, made, trail),
+        Kind::Enumerated(_, _) => read_listed(by, of, at, value, made, trail),
+        Kind::Bits(_) => read_bits(by, of, value, made, trail),
+        _ => read_string(by, of, kind, value, made, trail),
+    }
+}

@@ -1,0 +1,180 @@
+//! Tapes that are made item by item, and own their octets.
+ghost use Rattle.std.specs.Prelude.{ℕ, List, [], ◌∷◌, ◌++◌, ◌≡◌, OnOk, IfOk, length};
+ghost use Rattle.asn1_schema.specs.Tape.{mark, marks};
+ghost use Rattle.asn1_schema.specs.Owned.{lent, filled, span};
+ghost use Rattle.asn1_json.specs.Made.{made_with, made_marks};
+
+use asn1_schema::tape::Item;
+use std::alloc::{AllocError, Global};
+
+/// An item without its octets, and where they lie.
+#[derive(Debug, Clone, Copy)]
+pub(super) struct Placed {
+    /// The item, with no octets.
+    shape: Item<'static>,
+    /// The first of its octets.
+    start: usize,
+    /// How many octets it has.
+    len: usize,
+}
+
+/// A tape that was made from JSON. It owns its octets.
+#[derive(Debug, Drop)]
+pub struct JsonTape {
+    octets: Vec<u8>,
+    items: Vec<Placed>,
+}
+
+/// The octets of an item.
+fn octets_of<'a>(item: &Item<'a>) -> &'a [u8]
+    ensures { result.now ≡ lent item.now }
+{
+    match item {
+        Item::Integer(octets) => octets,
+        Item::Enumerated(octets) => octets,
+        Item::Bits(_, octets) => octets,
+        Item::Octets(octets) => octets,
+        Item::Identifier(_, octets) => octets,
+        Item::Text(_, octets) => octets,
+        Item::Time(_, octets) => octets,
+        Item::Any(_, _, _, octets) => octets,
+        _ => &[],
+    }
+}
+
+/// The item with other octets.
+fn with_octets<'b>(item: &Item<'_>, octets: &'b [u8]) -> Item<'b>
+    ensures other { mark result ≡ filled item.now octets.now }
+    ensures same { (o : List ℕ) → filled result o ≡ filled item.now o }
+{
+    match item {
+        Item::Boolean(truth) => Item::Boolean(*truth),
+        Item::Null => Item::Null,
+        Item::Integer(_) => Item::Integer(octets),
+        Item::Enumerated(_) => Item::Enumerated(octets),
+        Item::Bits(unused, _) => Item::Bits(*unused, octets),
+        Item::Octets(_) => Item::Octets(octets),
+        Item::Identifier(relative, _) => Item::Identifier(*relative, octets),
+        Item::Text(kind, _) => Item::Text(*kind, octets),
+        Item::Time(kind, _) => Item::Time(*kind, octets),
+        Item::Any(class, constructed, number, _) => {
+            Item::Any(*class, *constructed, *number, octets)
+        }
+        Item::Begin(n) => Item::Begin(*n),
+        Item::End(n) => Item::End(*n),
+        Item::Absent => Item::Absent,
+        Item::Arm(k) => Item::Arm(*k),
+        Item::ArmEnd(k) => Item::ArmEnd(*k),
+        Item::Pieces(n) => Item::Pieces(*n),
+        Item::PiecesEnd(n) => Item::PiecesEnd(*n),
+    }
+}
+
+/// So many octets from a place on, or fewer where there are no more.
+fn octets_at(octets: &[u8], start: usize, len: usize) -> &[u8]
+    ensures { result.now ≡ span octets.now start len }
+{
+    let rest = octets.split_at(start.min(octets.len())).1;
+    rest.split_at(len.min(rest.len())).0
+}
+
+/// The items from a place on.
+fn items_from(items: &[Placed], start: usize) -> &[Placed] {
+    items.split_at(start.min(items.len())).1
+}
+
+impl JsonTape {
+    /// A tape with no items.
+    pub(super) fn new(alloc: Global) -> JsonTape
+        ensures { made_marks result ≡ [] }
+    {
+        JsonTape {
+            octets: Vec::new(alloc),
+            items: Vec::new(alloc),
+        }
+    }
+
+    /// How many items it has.
+    pub fn len(&self) -> usize
+        ensures { result ≡ length (made_marks self.now) }
+    {
+        self.items.len()
+    }
+
+    /// Whether it has none.
+    pub fn is_empty(&self) -> bool {
+        self.items.is_empty()
+    }
+
+    /// Puts an item behind the others.
+    pub(super) fn push(&mut self, item: &Item<'_>) -> Result<(), AllocError>
+        ensures { OnOk result ((more : List ℕ) → made_with self.new more ≡
+            made_with self.old (lent item.now ++ more) ++ mark item.now ∷ []) }
+    {
+        let octets = octets_of(item);
+        let start = self.octets.len();
+        self.octets.extend_from_slice(octets)?;
+        self.items.push(Placed {
+            shape: with_octets(item, &[]),
+            start,
+            len: octets.len(),
+        })?;
+        Ok(())
+    }
+
+    /// Puts the items of a tape behind the others.
+    pub(super) fn append(&mut self, tape: &[Item<'_>]) -> Result<(), AllocError> {
+        for item in tape {
+            self.push(item)?;
+        }
+        Ok(())
+    }
+
+    /// A row begins. Its place is answered, which `close` is told.
+    pub(super) fn open(&mut self) -> Result<usize, AllocError> {
+        let place = self.items.len();
+        self.push(&Item::Begin(0))?;
+        Ok(place)
+    }
+
+    /// The row that began at a place ends.
+    pub(super) fn close(&mut self, place: usize) -> Result<(), AllocError> {
+        let count = self.items.len().saturating_sub(place).saturating_sub(1);
+        if let Some(begin) = self.items.get_mut(place) {
+            begin.shape = Item::Begin(count);
+        }
+        self.push(&Item::End(count))
+    }
+
+    /// Puts the items from a place on, which are lent from here, on a tape that is emptied first.
+    pub(super) fn lend_from<'t>(
+        &'t self,
+        start: usize,
+        tape: &mut Vec<Item<'t>>,
+    ) -> Result<(), AllocError> {
+        tape.clear();
+        for placed in items_from(&self.items, start) {
+            let octets = octets_at(&self.octets, placed.start, placed.len);
+            tape.push(with_octets(&placed.shape, octets))?;
+        }
+        Ok(())
+    }
+
+    /// Puts the items on a tape that is emptied first. They are lent from here.
+    pub fn lend<'t>(&'t self, tape: &mut Vec<Item<'t>>) -> Result<(), AllocError>
+        ensures { OnOk result (marks tape.new.items ≡ made_marks self.now) }
+    {
+        self.lend_from(0, tape)
+    }
+
+    /// The items from a place on.
+    pub(super) fn items_from(&self, start: usize) -> &[Placed] {
+        items_from(&self.items, start)
+    }
+
+    /// Puts other items in the place of those from a place on. Their octets lie here.
+    pub(super) fn replace_from(&mut self, start: usize, items: &[Placed]) -> Result<(), AllocError> {
+        self.items.truncate(start);
+        self.items.extend_from_slice(items)
+    }
+}
