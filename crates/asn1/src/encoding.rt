@@ -8,7 +8,9 @@ use crate::words::EncodeCall;
 use asn1_engine::outcome::Outcome;
 use asn1_engine::{Finding, RunError};
 use asn1_typed::standards::standards;
-use asn1_typed::{Encoded, Input as Text, Source, TypeName, TypeTable, encode, sound_types, type_named};
+use asn1_typed::{
+    Encoded, Input as Text, Source, TypeName, TypeTable, encode, sound_types, type_named,
+};
 use std::alloc::Global;
 use std::io::{BufWriter, Write};
 use std::rt::Files;

@@ -255,7 +255,9 @@ fn encode_command<'a>(alloc: Global) -> Result<Command<'a>, AllocError> {
         .action(ArgAction::Set);
     Command::new(alloc, "encode")
         .about("Writes the value of a file of JSON by DER, by a type of ASN.1 modules")
-        .after_help("Example: asn1 encode --type Certificate --pem CERTIFICATE -o new.pem value.json")
+        .after_help(
+            "Example: asn1 encode --type Certificate --pem CERTIFICATE -o new.pem value.json",
+        )
         .arg(module_files(alloc))?
         .arg(name.required(true))?
         .arg(output.short('o'))?

@@ -61,11 +61,13 @@ abbrev pub has_arcs : Bool → List ℕ → Bool
 has_arcs relative s = list_any (nat_eq 46) s || (relative && is_numeral s)
 
 -- arcs with points between them; or hexadecimal, as of identifiers whose arcs are too large to be shown
+abbrev pub DenotesArcsOr : (has_arcs relative : Bool) → List ℕ → List ℕ → Type 0
+DenotesArcsOr true relative s o =
+    (are_shown relative o ≡ true) × IsOctets o × AreShortest o × (s ≡ arcs_text (arcs relative o))
+DenotesArcsOr false relative s o = IsHexadecimal s o
+
 abbrev pub DenotesIdentifier : Bool → List ℕ → List ℕ → Type 0
-DenotesIdentifier relative s o =
-    if has_arcs relative s
-    then (are_shown relative o ≡ true) × IsOctets o × AreShortest o × (s ≡ arcs_text (arcs relative o))
-    else IsHexadecimal s o
+DenotesIdentifier relative s o = DenotesArcsOr (has_arcs relative s) relative s o
 
 -- the octets of the characters, in the code of the type
 abbrev pub DenotesText : TextKind → List ℕ → List ℕ → Type 0

@@ -46,22 +46,22 @@ DenotesComponent Sub Left (Some j) _ Rest = ⊥
 -- Members denote the values of the fields from a place on, and of unknown elements behind them. A component that is left
 -- out has the value of its default, to a depth of elements.
 abbrev pub DenoteFields : Types → ℕ → (ℕ → Json → Value → Type 0) → ℕ → Option ℕ → Members → List Field → ℕ → Values → Type 0
-DenoteFields types depth Sub row unknown ms [] place vs =
+DenoteFields types depth Sub at unknown ms [] place vs =
     DenoteUnknown Sub unknown (get_member (codes "...") ms) vs
-DenoteFields types depth Sub row unknown ms (f ∷ fs) place vs =
+DenoteFields types depth Sub at unknown ms (f ∷ fs) place vs =
     DenotesComponent (Sub f.of) (LeftOut der (Body der types.table depth f.of) f.presence vs)
-    (get_member (name_of_field types (Some row) place) ms) vs
-    (DenoteFields types depth Sub row unknown ms fs (suc place))
+    (get_member (name_of_field types (Some at) place) ms) vs
+    (DenoteFields types depth Sub at unknown ms fs (suc place))
 
 -- the name of a field, or of the unknown elements
 abbrev pub IsNameOfPart : Types → ℕ → Option ℕ → List ℕ → Type 0
-IsNameOfPart types row unknown key =
-    ((place : ℕ) × (place < count_of_fields types (Some row)) × (key ≡ name_of_field types (Some row) place)) ⊎
+IsNameOfPart types at unknown key =
+    ((place : ℕ) × (place < count_of_fields types (Some at)) × (key ≡ name_of_field types (Some at) place)) ⊎
     ((t : ℕ) × (unknown ≡ Some t) × (key ≡ codes "..."))
 
 -- each member has such a name, and none the name of another
-pub record AreNamed (types : Types) (row : ℕ) (unknown : Option ℕ) (ms : Members) : Type 0 where
-  pub known : (key : List ℕ) → Contains (keys ms) key → IsNameOfPart types row unknown key
+pub record AreNamed (types : Types) (at : ℕ) (unknown : Option ℕ) (ms : Members) : Type 0 where
+  pub known : (key : List ℕ) → Contains (keys ms) key → IsNameOfPart types at unknown key
   pub distinct : AreDistinct (keys ms)
 
 -- an object denotes a row

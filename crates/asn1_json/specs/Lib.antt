@@ -10,3 +10,4 @@ pub mod DenotedLeaves
 pub mod Denotes
 pub mod MadeFrom
 pub mod Trees
+pub mod Outcomes

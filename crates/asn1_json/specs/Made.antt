@@ -11,7 +11,7 @@ placed_mark o p = filled p.shape (span o p.start p.len)
 
 -- what stands on a tape, if its octets were more
 abbrev pub made_with : JsonTape → List ℕ → List Mark
-made_with t more = map (placed_mark (t.octets.items ++ more)) t.items.items
+made_with t others = map (placed_mark (t.octets.items ++ others)) t.items.items
 
 -- what stands on a tape
 abbrev pub made_marks : JsonTape → List Mark

@@ -34,8 +34,8 @@ leaf_tree labels (any id o) = string (element_text id o)
 
 -- a row of members, where it is known that they are members of a list
 abbrev pub row_tree : (of : Option ℕ) → (Option ℕ → Items) → Members → Json
-row_tree None items members = object members
-row_tree (Some t) items members = array (items (Some t))
+row_tree None items ms = object ms
+row_tree (Some t) items ms = array (items (Some t))
 
 -- the document of a value of the type at a place, if one is given
 abbrev mutual

@@ -18,16 +18,15 @@ mod place;
 mod trail;
 mod values;
 
-pub use made::JsonTape;
-pub use trail::Reason;
-
 use crate::types::Types;
 use asn1_schema::build::Schema;
 use json::{Error, Scratch, Value};
 use leaf::By;
+pub use made::JsonTape;
 use place::{octet_of, octet_of_fault, path_of};
 use std::alloc::{AllocError, AllocFailed, Global};
 use std::{fmt, str};
+pub use trail::Reason;
 use trail::{Fault, Trail};
 use values::read_value;
 
@@ -57,12 +56,16 @@ pub enum FromJsonError {
 }
 
 impl<T: Drop> From<AllocFailed<T>> for FromJsonError {
+    ghost from_gives = { λ _ e. e ≡ errors.OutOfMemory };
+
     fn from(_failed: AllocFailed<T>) -> FromJsonError {
         FromJsonError::OutOfMemory
     }
 }
 
 impl From<AllocError> for FromJsonError {
+    ghost from_gives = { λ _ e. e ≡ errors.OutOfMemory };
+
     fn from(_error: AllocError) -> FromJsonError {
         FromJsonError::OutOfMemory
     }
@@ -132,7 +135,9 @@ fn made_from(
     of: usize,
     text: &str,
     value: &Value<'_>,
-) -> Result<JsonTape, FromJsonError> {
+) -> Result<JsonTape, FromJsonError>
+    requires { is_sound by.types.table.now ≡ true }
+{
     let mut made = JsonTape::new(by.alloc);
     let mut trail = Trail::new(by.alloc, of);
     match read_value(by, MOST_DEPTH, of, value, &mut made, &mut trail) {
@@ -172,7 +177,11 @@ pub fn tape_from_json(
         table: schema.nodes.as_slice(),
         names: schema.names.as_slice(),
     };
-    let by = By { alloc, types, depth };
+    let by = By {
+        alloc,
+        types,
+        depth,
+    };
     let mut scratch = Scratch::new(alloc);
     match Value::parse(alloc, text, &mut scratch) {
         Ok(value) => made_from(by, of, text, &value),

@@ -68,7 +68,7 @@ fn refused(
 }
 
 /// The strict encoding of the value of a tape.
-fn encoded(
+fn written(
     alloc: Global,
     schema: &Schema<'_>,
     of: usize,
@@ -106,7 +106,7 @@ pub fn encode(
     ensures { IfOk result (IsEncoded schema.now of input.entry) }
 {
     match tape_from_json(alloc, schema, of, MOST_DEPTH, input.octets) {
-        Ok(made) => encoded(alloc, schema, of, input, &made),
+        Ok(made) => written(alloc, schema, of, input, &made),
         Err(FromJsonError::OutOfMemory) => Err(RunError::OutOfMemory),
         Err(FromJsonError::Refused(refusal)) => refused(alloc, schema, input, &refusal),
     }

@@ -1,4 +1,6 @@
 //! The members of a set-of, in the order of their encodings (X.690 11.6).
+ghost use Rattle.std.specs.Prelude.{◌≡◌, true};
+ghost use Rattle.asn1_schema.specs.Sound.{is_sound};
 
 use crate::reading::leaf::By;
 use crate::reading::made::{JsonTape, Placed};
@@ -24,7 +26,9 @@ fn member_of(
     tape: &[Item<'_>],
     start: usize,
     trail: &mut Trail,
-) -> Result<Member, Fault> {
+) -> Result<Member, Fault>
+    requires { is_sound by.types.table.now ≡ true }
+{
     let mut octets = DerBuffer::new(by.alloc);
     match encode_der(by.types.table, of, by.depth, tape, &mut octets) {
         Ok(()) => Ok(Member {
@@ -43,7 +47,9 @@ fn members_of(
     of: usize,
     tape: &[Item<'_>],
     trail: &mut Trail,
-) -> Result<Vec<Member>, Fault> {
+) -> Result<Vec<Member>, Fault>
+    requires { is_sound by.types.table.now ≡ true }
+{
     let mut members = Vec::new(by.alloc);
     let mut rest = tape;
     while !rest.is_empty() {
@@ -56,7 +62,11 @@ fn members_of(
 }
 
 /// The items of members, in their order.
-fn items_of(by: By<'_, '_>, items: &[Placed], members: &[Member]) -> Result<Vec<Placed>, AllocError> {
+fn items_of(
+    by: By<'_, '_>,
+    items: &[Placed],
+    members: &[Member],
+) -> Result<Vec<Placed>, AllocError> {
     let mut arranged = Vec::with_capacity(by.alloc, items.len())?;
     for member in members {
         let rest = items.split_at(member.start.min(items.len())).1;
@@ -72,7 +82,9 @@ fn arranged(
     start: usize,
     made: &JsonTape,
     trail: &mut Trail,
-) -> Result<Vec<Placed>, Fault> {
+) -> Result<Vec<Placed>, Fault>
+    requires { is_sound by.types.table.now ≡ true }
+{
     let mut tape = Vec::new(by.alloc);
     made.lend_from(start, &mut tape)?;
     let mut members = members_of(by, of, &tape, trail)?;
@@ -88,7 +100,9 @@ pub(super) fn arrange(
     start: usize,
     made: &mut JsonTape,
     trail: &mut Trail,
-) -> Result<(), Fault> {
+) -> Result<(), Fault>
+    requires { is_sound by.types.table.now ≡ true }
+{
     let items = arranged(by, of, start, made, trail)?;
     made.replace_from(start, &items)?;
     Ok(())

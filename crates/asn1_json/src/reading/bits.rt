@@ -22,13 +22,11 @@ fn member<'m, 'a>(members: &'m [(&'a str, Value<'a>)], name: &str) -> Option<&'m
 }
 
 /// Whether a number of so many bits stands there, and as many octets hold them.
-fn is_length(
-    alloc: Global,
-    length: &str,
-    octets: usize,
-    unused: u8,
-) -> Result<bool, AllocError> {
-    let text = count_text(alloc, octets.saturating_mul(8).saturating_sub(usize::from(unused)))?;
+fn is_length(alloc: Global, length: &str, octets: usize, unused: u8) -> Result<bool, AllocError> {
+    let text = count_text(
+        alloc,
+        octets.saturating_mul(8).saturating_sub(usize::from(unused)),
+    )?;
     Ok(text.as_str() == length)
 }
 
@@ -66,9 +64,10 @@ pub(super) fn bits_of(
     alloc: Global,
     members: &[(&str, Value<'_>)],
 ) -> Result<Option<(u8, Vec<u8>)>, AllocError> {
-    let (Some(Value::String(value)), Some(Value::Number(length))) =
-        (member(members, "value"), member(members, "length"))
-    else {
+    let (Some(Value::String(value)), Some(Value::Number(length))) = (
+        member(members, "value"),
+        member(members, "length"),
+    ) else {
         return Ok(None);
     };
     if members.len() != 2 {

@@ -1,4 +1,13 @@
 //! Values without parts, from JSON.
+ghost use Rattle.std.specs.Prelude.{◌≡◌, true, Some, MatchResult};
+ghost use Rattle.json.specs.Value.{value_view};
+ghost use Rattle.asn1_schema.specs.Sound.{is_sound};
+ghost use Rattle.asn1_schema.specs.Tape.{leaf_mark, mark, marks};
+ghost use Rattle.asn1_schema.specs.Values.{Leaf, Value as SpecValue, leaf};
+ghost use Rattle.asn1_json.specs.Made.{tape_of_value};
+ghost use Rattle.asn1_json.specs.Outcomes.{DenotesSimple, HasWord, Reads};
+ghost use Rattle.asn1_json.specs.Types.{kind_at, labels_at};
+ghost use Rattle.asn1_json.specs.declared.reading.trail.Fault.TheVariants as faults;
 
 use crate::reading::arcs::{has_arcs, identifier_content};
 use crate::reading::bits::{bits_of, hexadecimal};
@@ -10,6 +19,7 @@ use crate::types::Types;
 use asn1_headers::buffer::DerBuffer;
 use asn1_headers::der::element_by_der;
 use asn1_schema::encode::{EncodeError, encode_der};
+use asn1_schema::laws::tapes_begin_with_one_value;
 use asn1_schema::schema::{Kind, TextKind, TimeKind};
 use asn1_schema::tape::Item;
 use json::Value;
@@ -33,7 +43,13 @@ pub(super) fn judge(
     of: usize,
     tape: &[Item<'_>],
     trail: &mut Trail,
-) -> Result<(), Fault> {
+) -> Result<(), Fault>
+    requires { is_sound by.types.table.now ≡ true }
+    ensures { (v : SpecValue) → marks tape.now ≡ tape_of_value v → MatchResult result
+        (λ _. HasWord by.entry.types.table.now by.entry.depth of v)
+        (λ fault. fault ≡ faults.Refused → HasWord by.entry.types.table.now by.entry.depth of v → ⊥) }
+{
+    tapes_begin_with_one_value();
     let mut buf = DerBuffer::new(by.alloc);
     match encode_der(by.types.table, of, by.depth, tape, &mut buf) {
         Ok(()) => Ok(()),
@@ -49,10 +65,18 @@ fn put(
     item: Item<'_>,
     made: &mut JsonTape,
     trail: &mut Trail,
-) -> Result<(), Fault> {
-    judge(by, of, &[item], trail)?;
-    made.push(&item)?;
-    Ok(())
+) -> Result<(), Fault>
+    requires { is_sound by.types.table.now ≡ true }
+    ensures { (l : Leaf) → mark item.entry ≡ leaf_mark l → Reads tape_of_value (λ v. v ≡ leaf l)
+        (HasWord by.entry.types.table.now by.entry.depth of) made.old made.new result }
+{
+    match judge(by, of, &[item], trail) {
+        Ok(()) => {
+            made.push(&item)?;
+            Ok(())
+        }
+        Err(fault) => Err(fault),
+    }
 }
 
 /// A truth value.
@@ -62,7 +86,9 @@ fn read_boolean(
     value: &Value<'_>,
     made: &mut JsonTape,
     trail: &mut Trail,
-) -> Result<(), Fault> {
+) -> Result<(), Fault>
+    requires { is_sound by.types.table.now ≡ true }
+{
     match value {
         Value::Bool(truth) => put(by, of, Item::Boolean(*truth), made, trail),
         _ => Err(trail.refused(of, Reason::Boolean)),
@@ -76,7 +102,9 @@ fn read_null(
     value: &Value<'_>,
     made: &mut JsonTape,
     trail: &mut Trail,
-) -> Result<(), Fault> {
+) -> Result<(), Fault>
+    requires { is_sound by.types.table.now ≡ true }
+{
     match value {
         Value::Null => put(by, of, Item::Null, made, trail),
         _ => Err(trail.refused(of, Reason::Null)),
@@ -90,7 +118,9 @@ fn read_integer(
     value: &Value<'_>,
     made: &mut JsonTape,
     trail: &mut Trail,
-) -> Result<(), Fault> {
+) -> Result<(), Fault>
+    requires { is_sound by.types.table.now ≡ true }
+{
     let Value::Number(text) = value else {
         return Err(trail.refused(of, Reason::Integer));
     };
@@ -108,7 +138,9 @@ fn read_name(
     name: &str,
     made: &mut JsonTape,
     trail: &mut Trail,
-) -> Result<(), Fault> {
+) -> Result<(), Fault>
+    requires { is_sound by.types.table.now ≡ true }
+{
     let Some(number) = by.types.number(at, name) else {
         return Err(trail.refused(of, Reason::Listed));
     };
@@ -126,7 +158,9 @@ fn read_listed(
     value: &Value<'_>,
     made: &mut JsonTape,
     trail: &mut Trail,
-) -> Result<(), Fault> {
+) -> Result<(), Fault>
+    requires { is_sound by.types.table.now ≡ true }
+{
     match value {
         Value::String(name) => read_name(by, of, at, name, made, trail),
         Value::Number(text) => match integer_content(by.alloc, text)? {
@@ -144,7 +178,9 @@ fn read_bits(
     value: &Value<'_>,
     made: &mut JsonTape,
     trail: &mut Trail,
-) -> Result<(), Fault> {
+) -> Result<(), Fault>
+    requires { is_sound by.types.table.now ≡ true }
+{
     let Value::Object(members) = value else {
         return Err(trail.refused(of, Reason::Bits));
     };
@@ -161,7 +197,9 @@ fn read_octets(
     text: &str,
     made: &mut JsonTape,
     trail: &mut Trail,
-) -> Result<(), Fault> {
+) -> Result<(), Fault>
+    requires { is_sound by.types.table.now ≡ true }
+{
     match hexadecimal(by.alloc, text)? {
         Some(octets) => put(by, of, Item::Octets(&octets), made, trail),
         None => Err(trail.refused(of, Reason::Octets)),
@@ -176,7 +214,9 @@ fn read_identifier(
     text: &str,
     made: &mut JsonTape,
     trail: &mut Trail,
-) -> Result<(), Fault> {
+) -> Result<(), Fault>
+    requires { is_sound by.types.table.now ≡ true }
+{
     let content = if has_arcs(relative, text) {
         identifier_content(by.alloc, relative, text)?
     } else {
@@ -196,7 +236,9 @@ fn read_text(
     text: &str,
     made: &mut JsonTape,
     trail: &mut Trail,
-) -> Result<(), Fault> {
+) -> Result<(), Fault>
+    requires { is_sound by.types.table.now ≡ true }
+{
     match text_octets(by.alloc, kind, text)? {
         Some(octets) => put(by, of, Item::Text(kind, &octets), made, trail),
         None => Err(trail.refused(of, Reason::Text)),
@@ -211,7 +253,9 @@ fn read_time(
     text: &str,
     made: &mut JsonTape,
     trail: &mut Trail,
-) -> Result<(), Fault> {
+) -> Result<(), Fault>
+    requires { is_sound by.types.table.now ≡ true }
+{
     match character_octets(by.alloc, text)? {
         Some(octets) => put(by, of, Item::Time(kind, &octets), made, trail),
         None => Err(trail.refused(of, Reason::Value)),
@@ -239,7 +283,9 @@ fn read_element(
     text: &str,
     made: &mut JsonTape,
     trail: &mut Trail,
-) -> Result<(), Fault> {
+) -> Result<(), Fault>
+    requires { is_sound by.types.table.now ≡ true }
+{
     let Some(octets) = hexadecimal(by.alloc, text)? else {
         return Err(trail.refused(of, Reason::Element));
     };
@@ -269,7 +315,9 @@ fn read_string(
     value: &Value<'_>,
     made: &mut JsonTape,
     trail: &mut Trail,
-) -> Result<(), Fault> {
+) -> Result<(), Fault>
+    requires { is_sound by.types.table.now ≡ true }
+{
     let Value::String(text) = value else {
         return Err(trail.refused(of, no_string(kind)));
     };
@@ -293,7 +341,12 @@ pub(super) fn read_leaf(
     value: &Value<'_>,
     made: &mut JsonTape,
     trail: &mut Trail,
-) -> Result<(), Fault> {
+) -> Result<(), Fault>
+    requires sound { is_sound by.types.table.now ≡ true }
+    requires kind { kind_at by.types.table.now (Some at) ≡ Some kind.now }
+    ensures { Reads tape_of_value (DenotesSimple (labels_at by.entry.types.names.now (Some at)) kind.now
+        (value_view value.now)) (HasWord by.entry.types.table.now by.entry.depth of) made.old made.new result }
+{
     match kind {
         Kind::Boolean => read_boolean(by, of, value, made, trail),
         Kind::Null => read_null(by, of, value, made, trail),

@@ -1,8 +1,9 @@
 //! Tapes that are made item by item, and own their octets.
-ghost use Rattle.std.specs.Prelude.{ℕ, List, [], ◌∷◌, ◌++◌, ◌≡◌, OnOk, IfOk, length};
-ghost use Rattle.asn1_schema.specs.Tape.{mark, marks};
+ghost use Rattle.std.specs.Prelude.{ℕ, List, [], ◌∷◌, ◌++◌, ◌≡◌, ◌↔◌, OnOk, IfOk, IsTrue, length, take, drop};
+ghost use Rattle.asn1_schema.specs.Tape.{begin_mark, mark, marks};
 ghost use Rattle.asn1_schema.specs.Owned.{lent, filled, span};
-ghost use Rattle.asn1_json.specs.Made.{made_with, made_marks};
+ghost use Rattle.asn1_json.specs.Made.{made_marks, made_with};
+ghost use Rattle.asn1_json.specs.Outcomes.{Appends, Closes};
 
 use asn1_schema::tape::Item;
 use std::alloc::{AllocError, Global};
@@ -79,7 +80,9 @@ fn octets_at(octets: &[u8], start: usize, len: usize) -> &[u8]
 }
 
 /// The items from a place on.
-fn items_from(items: &[Placed], start: usize) -> &[Placed] {
+fn items_from(items: &[Placed], start: usize) -> &[Placed]
+    ensures { result.now ≡ drop start items.now }
+{
     items.split_at(start.min(items.len())).1
 }
 
@@ -102,13 +105,16 @@ impl JsonTape {
     }
 
     /// Whether it has none.
-    pub fn is_empty(&self) -> bool {
+    pub fn is_empty(&self) -> bool
+        ensures { IsTrue result ↔ (length (made_marks self.now) ≡ 0) }
+    {
         self.items.is_empty()
     }
 
-    /// Puts an item behind the others.
-    pub(super) fn push(&mut self, item: &Item<'_>) -> Result<(), AllocError>
-        ensures { OnOk result ((more : List ℕ) → made_with self.new more ≡
+    /// Puts an item behind the others, and its octets behind theirs.
+    fn put(&mut self, item: &Item<'_>) -> Result<(), AllocError>
+        ensures behind { OnOk result (self.new.octets.items ≡ self.old.octets.items ++ lent item.now) }
+        ensures marks { OnOk result ((more : List ℕ) → made_with self.new more ≡
             made_with self.old (lent item.now ++ more) ++ mark item.now ∷ []) }
     {
         let octets = octets_of(item);
@@ -122,8 +128,18 @@ impl JsonTape {
         Ok(())
     }
 
+    /// Puts an item behind the others.
+    pub(super) fn push(&mut self, item: &Item<'_>) -> Result<(), AllocError>
+        ensures { OnOk result (Appends self.old self.new (mark item.now ∷ [])) }
+    {
+        self.put(item)?;
+        Ok(())
+    }
+
     /// Puts the items of a tape behind the others.
-    pub(super) fn append(&mut self, tape: &[Item<'_>]) -> Result<(), AllocError> {
+    pub(super) fn append(&mut self, tape: &[Item<'_>]) -> Result<(), AllocError>
+        ensures { OnOk result (Appends self.old self.new (marks tape.now)) }
+    {
         for item in tape {
             self.push(item)?;
         }
@@ -131,14 +147,19 @@ impl JsonTape {
     }
 
     /// A row begins. Its place is answered, which `close` is told.
-    pub(super) fn open(&mut self) -> Result<usize, AllocError> {
+    pub(super) fn open(&mut self) -> Result<usize, AllocError>
+        ensures place { IfOk result (λ place. place ≡ length (made_marks self.old)) }
+        ensures begins { OnOk result (Appends self.old self.new (begin_mark 0 ∷ [])) }
+    {
         let place = self.items.len();
         self.push(&Item::Begin(0))?;
         Ok(place)
     }
 
     /// The row that began at a place ends.
-    pub(super) fn close(&mut self, place: usize) -> Result<(), AllocError> {
+    pub(super) fn close(&mut self, place: usize) -> Result<(), AllocError>
+        ensures { OnOk result (Closes self.old self.new place) }
+    {
         let count = self.items.len().saturating_sub(place).saturating_sub(1);
         if let Some(begin) = self.items.get_mut(place) {
             begin.shape = Item::Begin(count);
@@ -151,7 +172,9 @@ impl JsonTape {
         &'t self,
         start: usize,
         tape: &mut Vec<Item<'t>>,
-    ) -> Result<(), AllocError> {
+    ) -> Result<(), AllocError>
+        ensures { OnOk result (marks tape.new.items ≡ drop start (made_marks self.now)) }
+    {
         tape.clear();
         for placed in items_from(&self.items, start) {
             let octets = octets_at(&self.octets, placed.start, placed.len);
@@ -168,12 +191,18 @@ impl JsonTape {
     }
 
     /// The items from a place on.
-    pub(super) fn items_from(&self, start: usize) -> &[Placed] {
+    pub(super) fn items_from(&self, start: usize) -> &[Placed]
+        ensures { result.now ≡ drop start self.now.items.items }
+    {
         items_from(&self.items, start)
     }
 
     /// Puts other items in the place of those from a place on. Their octets lie here.
-    pub(super) fn replace_from(&mut self, start: usize, items: &[Placed]) -> Result<(), AllocError> {
+    pub(super) fn replace_from(&mut self, start: usize, items: &[Placed]) -> Result<(), AllocError>
+        ensures octets { self.new.octets.items ≡ self.old.octets.items }
+        ensures items { OnOk result (self.new.items.items ≡
+            take start self.old.items.items ++ items.now) }
+    {
         self.items.truncate(start);
         self.items.extend_from_slice(items)
     }

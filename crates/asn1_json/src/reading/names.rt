@@ -9,9 +9,6 @@ use crate::types::Types;
 use json::Value;
 use std::alloc::{AllocError, Global};
 
-/// The members of an object.
-pub(super) type Members<'m, 'a> = &'m [(&'a str, Value<'a>)];
-
 /// The place of the last member with a name.
 pub(super) fn place_of(members: &[(&str, Value<'_>)], name: &str) -> Option<usize> {
     let mut left = members.len();
@@ -73,11 +70,7 @@ pub(super) fn arm_named(
 }
 
 /// The names of the fields of a row.
-fn field_names(
-    alloc: Global,
-    types: Types<'_, '_>,
-    row: usize,
-) -> Result<Vec<String>, AllocError> {
+fn field_names(alloc: Global, types: Types<'_, '_>, row: usize) -> Result<Vec<String>, AllocError> {
     let mut names = Vec::new(alloc);
     for place in 0..types.fields(Some(row)).len() {
         let name = field_name(alloc, types, row, place)?;

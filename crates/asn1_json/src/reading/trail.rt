@@ -1,4 +1,6 @@
 //! Where and why JSON is refused.
+ghost use Rattle.std.specs.Prelude.{◌≡◌};
+ghost use Rattle.asn1_json.specs.declared.reading.trail.Fault.TheVariants as faults;
 
 use std::alloc::{AllocError, AllocFailed, Global};
 use std::fmt;
@@ -70,7 +72,8 @@ impl Reason {
             Reason::Identifier => "expected a string of arcs with points between them",
             Reason::Text => "expected a string of characters that the type has",
             Reason::Time => "expected a string",
-            Reason::Element => "expected a string of one element in hexadecimal, with a strict header",
+            Reason::Element =>
+                "expected a string of one element in hexadecimal, with a strict header",
             Reason::Object => "expected an object",
             Reason::Array => "expected an array",
             Reason::OneMember => "expected an object with one member",
@@ -99,12 +102,16 @@ pub(super) enum Fault {
 }
 
 impl<T: Drop> From<AllocFailed<T>> for Fault {
+    ghost from_gives = { λ _ e. e ≡ faults.Memory };
+
     fn from(_failed: AllocFailed<T>) -> Fault {
         Fault::Memory
     }
 }
 
 impl From<AllocError> for Fault {
+    ghost from_gives = { λ _ e. e ≡ faults.Memory };
+
     fn from(_error: AllocError) -> Fault {
         Fault::Memory
     }

@@ -1,4 +1,16 @@
 //! Values with parts, from JSON.
+ghost use Rattle.std.specs.Prelude.{ℕ, ◌≡◌, true, List, Option, Some};
+ghost use Rattle.json.specs.Value.{items_view, value_view};
+ghost use Rattle.asn1_schema.specs.Grammar.{Word};
+ghost use Rattle.asn1_schema.specs.Rules.{der};
+ghost use Rattle.asn1_schema.specs.Sound.{is_sound};
+ghost use Rattle.asn1_schema.specs.declared.schema.Field.{Field as SpecField};
+ghost use Rattle.asn1_json.specs.Denotes.{Denotes, DenoteItems, DenotesChosen, DenotesRow};
+ghost use Rattle.asn1_json.specs.Made.{tape_of_value};
+ghost use Rattle.asn1_json.specs.Outcomes.{HasWord, IsArmOfWord, IsRowKind, IsRowOfWords, ItemsHaveWords};
+ghost use Rattle.asn1_json.specs.Outcomes.{LeftOutOnce, Reads, tapes_of_values};
+ghost use Rattle.asn1_json.specs.Tokens.{seen};
+ghost use Rattle.asn1_json.specs.Types.{arms_of, kind_at};
 
 use crate::reading::arranged::arrange;
 use crate::reading::leaf::{By, judge, read_leaf};
@@ -18,10 +30,21 @@ fn put_default(
     octets: &[u8],
     made: &mut JsonTape,
     trail: &mut Trail,
-) -> Result<(), Fault> {
+) -> Result<(), Fault>
+    requires sound { is_sound by.types.table.now ≡ true }
+    ensures { Reads tape_of_value (Word der by.entry.types.table.now by.entry.depth of octets.now) (λ v. Unit {0})
+        made.old made.new result }
+{
     let mut tape = Vec::new(by.alloc);
     let mut refusal = Refusal::none();
-    match decode_der_whole(by.types.table, of, by.depth, octets, &mut tape, &mut refusal) {
+    match decode_der_whole(
+        by.types.table,
+        of,
+        by.depth,
+        octets,
+        &mut tape,
+        &mut refusal,
+    ) {
         Ok(()) => {
             made.append(&tape)?;
             Ok(())
@@ -39,7 +62,11 @@ fn leave_out(
     field: &Field,
     made: &mut JsonTape,
     trail: &mut Trail,
-) -> Result<(), Fault> {
+) -> Result<(), Fault>
+    requires sound { is_sound by.types.table.now ≡ true }
+    ensures { Reads tapes_of_values (LeftOutOnce by.entry.types.table.now by.entry.depth field.now)
+        (λ vs. Unit {0}) made.old made.new result }
+{
     match &field.presence {
         Presence::Required => Err(trail.lacks(field.of, row, place)),
         Presence::Optional => {
@@ -61,7 +88,9 @@ fn read_field(
     members: &[(&str, Value<'_>)],
     made: &mut JsonTape,
     trail: &mut Trail,
-) -> Result<(), Fault> {
+) -> Result<(), Fault>
+    requires { is_sound by.types.table.now ≡ true }
+{
     let name = field_name(by.alloc, by.types, row, place)?;
     let Some(member) = place_of(members, name.as_str()) else {
         return leave_out(by, row, place, field, made, trail);
@@ -81,7 +110,9 @@ fn read_fields(
     members: &[(&str, Value<'_>)],
     made: &mut JsonTape,
     trail: &mut Trail,
-) -> Result<(), Fault> {
+) -> Result<(), Fault>
+    requires { is_sound by.types.table.now ≡ true }
+{
     for (place, field) in by.types.fields(Some(row)).iter().enumerate() {
         read_field(by, depth, row, place, field, members, made, trail)?;
     }
@@ -97,7 +128,11 @@ fn read_items(
     items: &[Value<'_>],
     made: &mut JsonTape,
     trail: &mut Trail,
-) -> Result<(), Fault> {
+) -> Result<(), Fault>
+    requires sound { is_sound by.types.table.now ≡ true }
+    ensures { Reads tapes_of_values (DenoteItems (Denotes (seen by.entry.types) by.entry.depth depth of)
+        (items_view items.now)) (ItemsHaveWords by.entry.types.table.now by.entry.depth of) made.old made.new result }
+{
     for (place, item) in items.iter().enumerate() {
         trail.enter(Step::Item(place))?;
         read_value(by, depth, of, item, made, trail)?;
@@ -115,7 +150,9 @@ fn read_unknown(
     members: &[(&str, Value<'_>)],
     made: &mut JsonTape,
     trail: &mut Trail,
-) -> Result<(), Fault> {
+) -> Result<(), Fault>
+    requires { is_sound by.types.table.now ≡ true }
+{
     let Some(of) = by.types.of_unknown(Some(row)) else {
         return Ok(());
     };
@@ -141,7 +178,14 @@ fn read_row(
     value: &Value<'_>,
     made: &mut JsonTape,
     trail: &mut Trail,
-) -> Result<(), Fault> {
+) -> Result<(), Fault>
+    requires sound { is_sound by.types.table.now ≡ true }
+    ensures { (fields : List SpecField) (unknown : Option ℕ) →
+        IsRowKind (kind_at by.entry.types.table.now (Some row)) fields unknown →
+        Reads tape_of_value (DenotesRow (seen by.entry.types) by.entry.depth
+        (Denotes (seen by.entry.types) by.entry.depth depth) row fields unknown (value_view value.now))
+        (IsRowOfWords by.entry.types.table.now by.entry.depth unknown fields) made.old made.new result }
+{
     let Value::Object(members) = value else {
         return Err(trail.refused(of, Reason::Object));
     };
@@ -164,7 +208,9 @@ fn read_list(
     value: &Value<'_>,
     made: &mut JsonTape,
     trail: &mut Trail,
-) -> Result<(), Fault> {
+) -> Result<(), Fault>
+    requires { is_sound by.types.table.now ≡ true }
+{
     let Value::Array(items) = value else {
         return Err(trail.refused(of, Reason::Array));
     };
@@ -187,7 +233,13 @@ fn read_choice(
     value: &Value<'_>,
     made: &mut JsonTape,
     trail: &mut Trail,
-) -> Result<(), Fault> {
+) -> Result<(), Fault>
+    requires sound { is_sound by.types.table.now ≡ true }
+    ensures { (arms : List ℕ) → arms ≡ arms_of (kind_at by.entry.types.table.now (Some choice)) →
+        Reads tape_of_value (DenotesChosen (seen by.entry.types)
+        (Denotes (seen by.entry.types) by.entry.depth depth) choice arms (value_view value.now))
+        (IsArmOfWord (seen by.entry.types) by.entry.depth choice) made.old made.new result }
+{
     let Value::Object(members) = value else {
         return Err(trail.refused(of, Reason::OneMember));
     };
@@ -217,7 +269,9 @@ fn judge_whole(
     start: usize,
     made: &JsonTape,
     trail: &mut Trail,
-) -> Result<(), Fault> {
+) -> Result<(), Fault>
+    requires { is_sound by.types.table.now ≡ true }
+{
     if of == at && !matches!(by.types.kind(Some(at)), Some(Kind::Set(_, Some(_)))) {
         return Ok(());
     }
@@ -236,7 +290,12 @@ pub(super) fn read_value(
     value: &Value<'_>,
     made: &mut JsonTape,
     trail: &mut Trail,
-) -> Result<(), Fault> {
+) -> Result<(), Fault>
+    requires { is_sound by.types.table.now ≡ true }
+    ensures { Reads tape_of_value
+        (Denotes (seen by.entry.types) by.entry.depth depth of (value_view value.now))
+        (HasWord by.entry.types.table.now by.entry.depth of) made.old made.new result }
+{
     if depth == 0 {
         return Err(trail.refused(of, Reason::Json));
     }
