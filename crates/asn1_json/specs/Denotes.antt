@@ -1,11 +1,10 @@
 -- Which values JSON denotes, by the types of a table and the names beside it (ITU-T X.697).
-use Rattle.std.specs.Prelude.{ℕ, zero, suc, Bool, true, false, List, [], ◌∷◌, ◌≡◌, ◌⊎◌, ◌<◌, length, codes, Option, Some, None, Contains}
+use Rattle.std.specs.Prelude.{ℕ, zero, suc, List, [], ◌∷◌, ◌≡◌, ◌⊎◌, ◌<◌, codes, Option, Some, None}
 use Rattle.std.specs.Prelude.{if◌then◌else◌}
 use Rattle.std.specs.List.Sorted.{IsPermutation}
 use Rattle.std.specs.Str.{bytes_eq}
 use Rattle.json.specs.Json.{Json, array, object, Items, no_items, item, Members, no_members, member}
 use Rattle.json.specs.Find.{get_member}
-use Rattle.json.specs.Strict.{keys, AreDistinct}
 use Rattle.asn1_schema.specs.declared.schema.Field.{Field}
 use Rattle.asn1_schema.specs.declared.schema.Kind.{Kind}
 use Rattle.asn1_schema.specs.declared.schema.Kind.TheVariants as kinds
@@ -54,15 +53,19 @@ DenoteFields types depth Sub at unknown ms (f ∷ fs) place vs =
     (DenoteFields types depth Sub at unknown ms fs (suc place))
 
 -- the name of a field, or of the unknown elements
+abbrev pub IsNameOfField : Types → ℕ → List ℕ → Type 0
+IsNameOfField types at key =
+    (place : ℕ) × (place < count_of_fields types (Some at)) × (key ≡ name_of_field types (Some at) place)
+
 abbrev pub IsNameOfPart : Types → ℕ → Option ℕ → List ℕ → Type 0
 IsNameOfPart types at unknown key =
-    ((place : ℕ) × (place < count_of_fields types (Some at)) × (key ≡ name_of_field types (Some at) place)) ⊎
-    ((t : ℕ) × (unknown ≡ Some t) × (key ≡ codes "..."))
+    IsNameOfField types at key ⊎ ((t : ℕ) × (unknown ≡ Some t) × (key ≡ codes "..."))
 
--- each member has such a name, and none the name of another
-pub record AreNamed (types : Types) (at : ℕ) (unknown : Option ℕ) (ms : Members) : Type 0 where
-  pub known : (key : List ℕ) → Contains (keys ms) key → IsNameOfPart types at unknown key
-  pub distinct : AreDistinct (keys ms)
+-- each member has such a name, and none behind it has the same
+abbrev pub AreNamed : Types → ℕ → Option ℕ → Members → Type 0
+AreNamed types at unknown no_members = Unit {0}
+AreNamed types at unknown (member key j ms) =
+    IsNameOfPart types at unknown key × (get_member key ms ≡ None) × AreNamed types at unknown ms
 
 -- an object denotes a row
 abbrev pub DenotesRow : Types → ℕ → (ℕ → Json → Value → Type 0) → ℕ → List Field → Option ℕ → Json → Value → Type 0

@@ -1,31 +1,25 @@
 -- What is made of JSON.
-use Rattle.std.specs.Prelude.{ℕ, ◌≡◌, List, Some, IsUtf8}
+use Rattle.std.specs.Prelude.{ℕ, ◌≡◌, ◌≤◌, List, Some, IsUtf8}
 use Rattle.json.specs.Json.{Json, document}
 use Rattle.asn1_schema.specs.declared.build.Schema.{Schema}
-use Rattle.asn1_schema.specs.Grammar.{Word}
-use Rattle.asn1_schema.specs.Rules.{strict}
-use Rattle.asn1_schema.specs.Values.{Value}
+use Rattle.asn1_schema.specs.Tape.{Kept, tape_of, value_of}
 use Rattle.asn1_json.specs.Shown.{of_schema}
 use Rattle.asn1_json.specs.Denotes.{Denotes}
-use Rattle.asn1_json.specs.Made.{made_marks, tape_of_value}
+use Rattle.asn1_json.specs.Made.{made_marks}
+use Rattle.asn1_json.specs.declared.reading.FromJsonError.{FromJsonError}
+use Rattle.asn1_json.specs.declared.reading.FromJsonError.TheVariants as errors
 use Rattle.asn1_json.specs.declared.reading.made.JsonTape.{JsonTape}
 
--- a value that JSON denotes, of which a word is the strict encoding
-pub record IsEncodedAs (schema : Schema) (depth of : ℕ) (json : Json) (v : Value) (word : List ℕ) : Type 0 where
-  pub denotes : Denotes (of_schema schema) depth 129 of json v
-  pub encodes : Word strict schema.nodes.items depth of word v
-
--- The tape is that of a value which the document denotes. No other one that it denotes has a strict encoding.
+-- The text is a document of JSON in UTF-8, and the tape is that of a value of the type which it denotes.
 pub record IsMadeFrom (schema : Schema) (depth of : ℕ) (text : List ℕ) (made : JsonTape) : Type 0 where
   pub json : Json
-  pub value : Value
+  pub kept : Kept
   pub utf8 : IsUtf8 text
   pub is : document text ≡ Some json
-  pub denotes : Denotes (of_schema schema) depth 129 of json value
-  pub tape : made_marks made ≡ tape_of_value value
-  pub only : (v : Value) (word : List ℕ) → IsEncodedAs schema depth of json v word → v ≡ value
+  pub denotes : Denotes (of_schema schema) depth 129 of json (value_of kept)
+  pub tape : made_marks made ≡ tape_of kept
 
--- the octets are no document in UTF-8 that denotes a value with a strict encoding
-abbrev pub DenotesNothing : Schema → ℕ → ℕ → List ℕ → Type 0
-DenotesNothing schema depth of text = (json : Json) (v : Value) (word : List ℕ) → IsUtf8 text →
-    document text ≡ Some json → IsEncodedAs schema depth of json v word → ⊥
+-- the octet of a refusal is one of so many, or behind the last
+abbrev pub IsWithin : ℕ → FromJsonError → Type 0
+IsWithin most errors.OutOfMemory = Unit {0}
+IsWithin most (errors.Refused refusal) = refusal.octet ≤ most

@@ -1,19 +1,23 @@
 -- What comes of JSON that is read.
-use Rattle.std.specs.Prelude.{ℕ, ◌≡◌, List, [], ◌∷◌, ◌++◌, length, Option, Some, None, Result, MatchResult}
-use Rattle.x690.specs.Ascending.{Ascending}
-use Rattle.json.specs.Json.{Json}
+use Rattle.std.specs.Prelude.{ℕ, ◌≡◌, ◌<◌, List, [], ◌∷◌, ◌++◌, length, drop, Option, Result, MatchResult, All}
+use Rattle.x690.specs.Identifiers.{Identifier}
+use Rattle.x690.specs.Strict.{element_octets}
+use Rattle.json.specs.Json.{Json, array, Items, Members}
+use Rattle.json.specs.Value.{value_view}
 use Rattle.asn1_schema.specs.declared.schema.Field.{Field}
 use Rattle.asn1_schema.specs.declared.schema.Node.{Node}
 use Rattle.asn1_schema.specs.declared.schema.Kind.{Kind}
-use Rattle.asn1_schema.specs.declared.schema.Kind.TheVariants as kinds
 use Rattle.asn1_schema.specs.declared.names.PartName.{PartName}
-use Rattle.asn1_schema.specs.Grammar.{AreEach, Body, LeftOut, Word}
+use Rattle.asn1_schema.specs.declared.tape.Item.{Item}
+use Rattle.asn1_schema.specs.Grammar.{Body, LeftOut, Word}
 use Rattle.asn1_schema.specs.Rules.{der, strict}
-use Rattle.asn1_schema.specs.Tape.{Mark, begin_mark, end_mark, tapes_of}
-use Rattle.asn1_schema.specs.Values.{Leaf, Value, Values, leaf, row, chosen, none, absent, more}
+use Rattle.asn1_schema.specs.Tape.{Mark, Kept, KeptRow, mark, leaf_mark, begin_mark, end_mark, tape_of, tapes_of, value_of, values_of}
+use Rattle.asn1_schema.specs.Values.{Leaf, Value, Values, leaf, row, any, none, absent, more}
 use Rattle.asn1_json.specs.DenotedLeaves.{DenotesLeaf}
-use Rattle.asn1_json.specs.Made.{made_with, whole_row}
-use Rattle.asn1_json.specs.Tokens.{Types, type_of_arm}
+use Rattle.asn1_json.specs.Denotes.{DenoteFields, DenoteItems, DenoteSet, DenotesComponent}
+use Rattle.asn1_json.specs.Made.{made_marks, made_with}
+use Rattle.asn1_json.specs.Tokens.{Types}
+use Rattle.asn1_json.specs.declared.reading.arranged.Member.{Member}
 use Rattle.asn1_json.specs.declared.reading.made.JsonTape.{JsonTape}
 use Rattle.asn1_json.specs.declared.reading.trail.Fault.{Fault}
 use Rattle.asn1_json.specs.declared.reading.trail.Fault.TheVariants as faults
@@ -25,6 +29,11 @@ HasWord table depth of v = (word : List ℕ) × Word strict table depth of word 
 -- a value without parts that JSON denotes
 abbrev pub DenotesSimple : List PartName → Kind → Json → Value → Type 0
 DenotesSimple labels kind j v = (l : Leaf) × (v ≡ leaf l) × DenotesLeaf labels kind j l
+
+-- octets are one element with a strict header, which an item is
+abbrev pub IsElementItem : List ℕ → Item → Type 0
+IsElementItem octets item = (id : Identifier) × (content : List ℕ) × (id.class < 4) ×
+    (octets ≡ element_octets id content) × (mark item ≡ leaf_mark (any id content))
 
 -- Marks were put behind those of a tape, and their octets behind its octets.
 pub record Appends (old new : JsonTape) (ms : List Mark) : Type 0 where
@@ -54,52 +63,56 @@ abbrev pub Reads : {V T : Type 0} → (V → List Mark) → (V → Type 0) → (
 Reads tape_of D W old new result =
     MatchResult result (λ _. Puts tape_of D W old new) (λ fault. fault ≡ faults.Refused → HaveNone D W)
 
--- each member of a list has a strict encoding
-abbrev pub ItemsHaveWords : List Node → ℕ → ℕ → Values → Type 0
-ItemsHaveWords table depth of none = Unit {0}
-ItemsHaveWords table depth of (absent vs) = ⊥
-ItemsHaveWords table depth of (more v vs) = HasWord table depth of v × ItemsHaveWords table depth of vs
+-- A value that is denoted was put behind the marks of a tape, and nothing else was.
+pub record Makes (D : Value → Type 0) (old new : JsonTape) : Type 0 where
+  pub kept : Kept
+  pub denotes : D (value_of kept)
+  pub put : Appends old new (tape_of kept)
 
-abbrev pub OthersHaveWords : List Node → ℕ → Option ℕ → Values → Type 0
-OthersHaveWords table depth None vs = vs ≡ none
-OthersHaveWords table depth (Some t) vs = ItemsHaveWords table depth t vs
-
--- each value of a field that is not left out has a strict encoding, and each unknown element behind them
-abbrev pub FieldsHaveWords : List Node → ℕ → Option ℕ → List Field → Values → Type 0
-FieldsHaveWords table depth unknown [] vs = OthersHaveWords table depth unknown vs
-FieldsHaveWords table depth unknown (f ∷ fs) none = ⊥
-FieldsHaveWords table depth unknown (f ∷ fs) (absent vs) = FieldsHaveWords table depth unknown fs vs
-FieldsHaveWords table depth unknown (f ∷ fs) (more v vs) =
-    HasWord table depth f.of v × FieldsHaveWords table depth unknown fs vs
-
--- a row of such values, and one of such members
-abbrev pub IsRowOfWords : List Node → ℕ → Option ℕ → List Field → Value → Type 0
-IsRowOfWords table depth unknown fs v = (vs : Values) × (v ≡ row vs) × FieldsHaveWords table depth unknown fs vs
-
-abbrev pub IsListOfWords : List Node → ℕ → ℕ → Value → Type 0
-IsListOfWords table depth of v = (vs : Values) × (v ≡ row vs) × ItemsHaveWords table depth of vs
-
--- the same of a set: its words ascend too
-abbrev pub IsSetOfWords : List Node → ℕ → ℕ → Value → Type 0
-IsSetOfWords table depth of v = (vs : Values) × (v ≡ row vs) × (words : List (List ℕ)) ×
-    AreEach (Word strict table depth of) words vs × Ascending words
-
--- a value of an arm that has a strict encoding
-abbrev pub IsArmOfWord : Types → ℕ → ℕ → Value → Type 0
-IsArmOfWord types depth choice v = (arm t : ℕ) × (w : Value) × (v ≡ chosen arm w) ×
-    (type_of_arm types (Some choice) arm ≡ Some t) × HasWord types.table depth t w
-
--- the marks of values in a row
-abbrev pub tapes_of_values : Values → List Mark
-tapes_of_values vs = tapes_of (whole_row vs)
-
--- a sequence or a set of these fields
-abbrev pub IsRowKind : Option Kind → List Field → Option ℕ → Type 0
-IsRowKind None fields unknown = ⊥
-IsRowKind (Some (kinds.Sequence fs u)) fields unknown = (fields ≡ fs.items) × (unknown ≡ u)
-IsRowKind (Some (kinds.Set fs u)) fields unknown = (fields ≡ fs.items) × (unknown ≡ u)
-IsRowKind (Some _) fields unknown = ⊥
+-- so of values in a row
+pub record MakesRow (D : Values → Type 0) (old new : JsonTape) : Type 0 where
+  pub kept : KeptRow
+  pub denotes : D (values_of kept)
+  pub put : Appends old new (tapes_of kept)
 
 -- a component is left out: it may be, or this is the value of its default
 abbrev pub LeftOutOnce : List Node → ℕ → Field → Values → Type 0
 LeftOutOnce table depth f vs = LeftOut der (Body der table depth f.of) f.presence vs (λ rest. rest ≡ none)
+
+-- the values of a component, if they are followed by none
+abbrev pub DenotesOnce : Types → ℕ → (ℕ → Json → Value → Type 0) → Field → Option Json → Values → Type 0
+DenotesOnce types depth Sub f found vs = DenotesComponent (Sub f.of)
+    (LeftOut der (Body der types.table depth f.of) f.presence vs) found vs (λ rest. rest ≡ none)
+
+-- values, and others behind them
+abbrev pub and_then : Values → Values → Values
+and_then none ws = ws
+and_then (absent vs) ws = absent (and_then vs ws)
+and_then (more v vs) ws = more v (and_then vs ws)
+
+-- Values of the first fields, so many: with what is denoted from there on they are denoted.
+abbrev pub DenoteFirst : Types → ℕ → (ℕ → Json → Value → Type 0) → ℕ → Option ℕ → Members → List Field → ℕ → Values → Type 0
+DenoteFirst types depth Sub at unknown ms fs place vs = (ws : Values) →
+    DenoteFields types depth Sub at unknown ms (drop place fs) place ws →
+    DenoteFields types depth Sub at unknown ms fs 0 (and_then vs ws)
+
+-- an array denotes values
+abbrev pub DenotesItems : (Json → Value → Type 0) → Json → Values → Type 0
+DenotesItems Sub j vs = (js : Items) × (j ≡ array js) × DenoteItems Sub js vs
+
+-- and a list of them, and a set of them in any order
+abbrev pub DenotesList : (Json → Value → Type 0) → Json → Value → Type 0
+DenotesList Sub j v = (js : Items) × (vs : Values) × (j ≡ array js) × (v ≡ row vs) × DenoteItems Sub js vs
+
+abbrev pub DenotesSet : (Json → Value → Type 0) → Json → Value → Type 0
+DenotesSet Sub j v = (js : Items) × (vs : Values) × (j ≡ array js) × (v ≡ row vs) × DenoteSet Sub js vs
+
+-- the document that a member of a set-of was read from, and its tape
+abbrev pub document_of : Member → Json
+document_of m = value_view m.item.now
+
+abbrev pub IsMember : (Json → Value → Type 0) → Member → Type 0
+IsMember Sub m = (kept : Kept) × (made_marks m.made ≡ tape_of kept) × Sub (document_of m) (value_of kept)
+
+abbrev pub AreMembers : (Json → Value → Type 0) → List Member → Type 0
+AreMembers Sub ms = All (IsMember Sub) ms

@@ -1,9 +1,13 @@
 //! Values of the types of tables, from JSON.
-ghost use Rattle.std.specs.Prelude.{◌≡◌, true, IfOk, IfErr};
+ghost use Rattle.std.specs.Prelude.{ℕ, ◌≡◌, ◌≤◌, true, IfOk, IfErr, length};
+ghost use Rattle.json.specs.Value.{value_view};
 ghost use Rattle.asn1_schema.specs.Sound.{is_sound};
-ghost use Rattle.asn1_json.specs.MadeFrom.{DenotesNothing, IsMadeFrom};
+ghost use Rattle.asn1_schema.specs.Tape.{Kept, tape_of, value_of};
+ghost use Rattle.asn1_json.specs.Denotes.{Denotes};
+ghost use Rattle.asn1_json.specs.Made.{made_marks};
+ghost use Rattle.asn1_json.specs.MadeFrom.{IsMadeFrom, IsWithin};
+ghost use Rattle.asn1_json.specs.Tokens.{seen};
 ghost use Rattle.asn1_json.specs.declared.reading.FromJsonError.TheVariants as errors;
-ghost use Rattle.asn1_json.specs.declared.reading.JsonRefusal.{JsonRefusal};
 
 mod arcs;
 mod arranged;
@@ -97,7 +101,9 @@ impl fmt::Display for FromJsonError {
 impl std::error::Error for FromJsonError {}
 
 /// The refusal of a text at an octet.
-fn text_refused(alloc: Global, of: usize, octet: usize, reason: Reason) -> FromJsonError {
+fn text_refused(alloc: Global, of: usize, octet: usize, reason: Reason) -> FromJsonError
+    ensures { (most : ℕ) → octet ≤ most → IsWithin most result }
+{
     FromJsonError::Refused(JsonRefusal {
         octet,
         path: Vec::new(alloc),
@@ -107,7 +113,9 @@ fn text_refused(alloc: Global, of: usize, octet: usize, reason: Reason) -> FromJ
 }
 
 /// The refusal of a text that is no JSON.
-fn no_json(alloc: Global, of: usize, text: &str) -> FromJsonError {
+fn no_json(alloc: Global, of: usize, text: &str) -> FromJsonError
+    ensures { IsWithin (length text.now) result }
+{
     match octet_of_fault(alloc, text) {
         Ok(octet) => text_refused(alloc, of, octet, Reason::Json),
         Err(_) => FromJsonError::OutOfMemory,
@@ -120,7 +128,9 @@ fn refusal_of(
     text: &str,
     value: &Value<'_>,
     trail: &Trail,
-) -> Result<JsonRefusal, AllocError> {
+) -> Result<JsonRefusal, AllocError>
+    ensures { IfOk result (λ refusal. refusal.octet ≤ length text.now) }
+{
     Ok(JsonRefusal {
         octet: octet_of(by.alloc, text, &trail.steps)?,
         path: path_of(by.alloc, by.types, value, trail)?,
@@ -136,7 +146,10 @@ fn made_from(
     text: &str,
     value: &Value<'_>,
 ) -> Result<JsonTape, FromJsonError>
-    requires { is_sound by.types.table.now ≡ true }
+    requires sound { is_sound by.types.table.now ≡ true }
+    ensures ok { IfOk result (λ made. (kept : Kept) × (made_marks made ≡ tape_of kept) ×
+        Denotes (seen by.entry.types) by.entry.depth 129 of (value_view value.now) (value_of kept)) }
+    ensures refused { IfErr result (IsWithin (length text.now)) }
 {
     let mut made = JsonTape::new(by.alloc);
     let mut trail = Trail::new(by.alloc, of);
@@ -166,8 +179,7 @@ pub fn tape_from_json(
 ) -> Result<JsonTape, FromJsonError>
     requires { is_sound schema.now.nodes.items ≡ true }
     ensures ok { IfOk result (IsMadeFrom schema.now depth of octets.now) }
-    ensures refused { IfErr result (λ error. (refusal : JsonRefusal) → error ≡ errors.Refused refusal →
-        DenotesNothing schema.now depth of octets.now) }
+    ensures refused { IfErr result (IsWithin (length octets.now)) }
 {
     let text = match str::from_utf8(octets) {
         Ok(text) => text,

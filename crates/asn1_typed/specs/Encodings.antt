@@ -21,7 +21,12 @@ pub record Encodes (schema : Schema) (of : ℕ) (text octets : List ℕ) : Type 
   pub denotes : Denotes (of_schema schema) 64 129 of json value
   pub word : Word strict schema.nodes.items 64 of octets value
 
--- the octets are the strict encoding; or there is none, and this is the line of a refusal
+-- octets are the strict encoding of a value, if they are answered
+abbrev pub IsWritten : Schema → ℕ → Value → Encoded → Type 0
+IsWritten schema of value (answers.Value octets) = Word strict schema.nodes.items 64 of octets.items value
+IsWritten schema of value (answers.Refused line) = Unit {0}
+
+-- and that of a value which the text denotes
 abbrev pub IsEncoded : Schema → ℕ → Input → Encoded → Type 0
 IsEncoded schema of input (answers.Value octets) = Encodes schema of input.octets.now octets.items
-IsEncoded schema of input (answers.Refused line) = (octets : List ℕ) → Encodes schema of input.octets.now octets → ⊥
+IsEncoded schema of input (answers.Refused line) = Unit {0}

@@ -1,7 +1,9 @@
 //! JSON as octets, by a type of a table.
 ghost use Rattle.std.specs.Prelude.{◌≡◌, true, IfOk};
 ghost use Rattle.asn1_schema.specs.Sound.{is_sound};
-ghost use Rattle.asn1_typed.specs.Encodings.{IsEncoded};
+ghost use Rattle.asn1_schema.specs.Tape.{Kept, tape_of, value_of};
+ghost use Rattle.asn1_json.specs.Made.{made_marks};
+ghost use Rattle.asn1_typed.specs.Encodings.{IsEncoded, IsWritten};
 
 use crate::input::Input;
 use crate::kinds::{self, push_named};
@@ -12,6 +14,7 @@ use asn1_json::{FromJsonError, JsonRefusal, JsonTape, tape_from_json};
 use asn1_module::mistake::position;
 use asn1_schema::build::Schema;
 use asn1_schema::encode::{EncodeError, encode_der_vec};
+use asn1_schema::laws::tapes_begin_with_one_value;
 use asn1_words::words::{push_number, push_str};
 use std::alloc::{AllocError, Global};
 
@@ -76,9 +79,11 @@ fn written(
     made: &JsonTape,
 ) -> Result<Encoded, RunError>
     requires { is_sound schema.now.nodes.items ≡ true }
+    ensures { (kept : Kept) → made_marks made.now ≡ tape_of kept →
+        IfOk result (IsWritten schema.now of (value_of kept)) }
 {
-    let mut tape = Vec::new(alloc);
-    made.lend(&mut tape)?;
+    tapes_begin_with_one_value();
+    let tape = made.lend(alloc)?;
     match encode_der_vec(alloc, &schema.nodes, of, MOST_DEPTH, &tape) {
         Ok(octets) => Ok(Encoded::Value(octets)),
         Err(EncodeError::OutOfMemory) => Err(RunError::OutOfMemory),
@@ -96,6 +101,8 @@ fn written(
 }
 
 /// Encodes the value that a text of JSON denotes by DER.
+///
+/// Of a refusal no clause says that the text denotes no value.
 pub fn encode(
     alloc: Global,
     schema: &Schema<'_>,

@@ -1,13 +1,24 @@
 //! Bit strings, from objects of JSON.
+ghost use Rattle.std.specs.Prelude.{◌≡◌, ◌-◌, ◌*◌, IfOk, MatchOption, Ok, length, take, true};
+ghost use Rattle.json.specs.Value.{members_view};
+ghost use Rattle.asn1_words.specs.Words.{number_text};
+ghost use Rattle.asn1_schema.specs.Grammar.{bits_in};
+ghost use Rattle.asn1_json.specs.DenotedLeaves.{DenotesBits, IsHexadecimal};
+ghost use Rattle.asn1_json.specs.Leaves.{octets_of_bits as spec_octets};
 
+use crate::bits::{joined_bits, octets_of_bits};
 use crate::leaves::count_text;
-use crate::reading::names::place_of;
+use crate::reading::names::member_named;
+use asn1_schema::tape::Item;
 use hex::FromHexError;
 use json::Value;
 use std::alloc::{AllocError, Global};
 
 /// The octets that a text of hexadecimal digits says, two for each, in either case. None are answered where it is none.
-pub(super) fn hexadecimal(alloc: Global, text: &str) -> Result<Option<Vec<u8>>, AllocError> {
+pub(super) fn hexadecimal(alloc: Global, text: &str) -> Result<Option<Vec<u8>>, AllocError>
+    ensures { IfOk result (λ found. MatchOption found (Unit {0})
+        (λ octets. IsHexadecimal text.now octets.items)) }
+{
     match hex::decode(alloc, text.as_bytes()) {
         Ok(octets) => Ok(Some(octets)),
         Err(FromHexError::OutOfMemory) => Err(AllocError),
@@ -15,69 +26,88 @@ pub(super) fn hexadecimal(alloc: Global, text: &str) -> Result<Option<Vec<u8>>, 
     }
 }
 
-/// The text of the member with a name.
-fn member<'m, 'a>(members: &'m [(&'a str, Value<'a>)], name: &str) -> Option<&'m Value<'a>> {
-    let place = place_of(members, name)?;
-    Some(&members[place].1)
+/// Whether a text is that of a number in decimals.
+fn is_count(alloc: Global, text: &str, count: usize) -> Result<bool, AllocError>
+    ensures { IfOk result (λ is. is ≡ true → text.now ≡ number_text count) }
+{
+    let own = count_text(alloc, count)?;
+    Ok(own.as_str() == text)
 }
 
-/// Whether a number of so many bits stands there, and as many octets hold them.
-fn is_length(alloc: Global, length: &str, octets: usize, unused: u8) -> Result<bool, AllocError> {
-    let text = count_text(
-        alloc,
-        octets.saturating_mul(8).saturating_sub(usize::from(unused)),
-    )?;
-    Ok(text.as_str() == length)
-}
-
-/// How many of the bits of so many octets are unused, where a number of bits is given in decimals: 7 at most.
-fn unused_bits(alloc: Global, length: &str, octets: usize) -> Result<Option<u8>, AllocError> {
-    let most = if octets == 0 { 1 } else { 8 };
+/// How many of so many bits are unused, where the number of the others is given in decimals: 7 at most.
+fn unused_bits(alloc: Global, number: &str, bits: usize) -> Result<Option<u8>, AllocError>
+    ensures { IfOk result (λ found. MatchOption found (Unit {0})
+        (λ unused. number.now ≡ number_text (bits - unused))) }
+{
+    let most = if bits == 0 { 1 } else { 8 };
     for unused in 0..most {
-        if is_length(alloc, length, octets, unused)? {
+        if is_count(alloc, number, bits.saturating_sub(usize::from(unused)))? {
             return Ok(Some(unused));
         }
     }
     Ok(None)
 }
 
-/// Whether so many bits at the end of octets are 0.
-fn are_zeros(octets: &[u8], unused: u8) -> bool {
-    match octets.last() {
-        None => true,
-        Some(last) => match unused {
-            0 => true,
-            1 => *last % 2 == 0,
-            2 => *last % 4 == 0,
-            3 => *last % 8 == 0,
-            4 => *last % 16 == 0,
-            5 => *last % 32 == 0,
-            6 => *last % 64 == 0,
-            _ => *last % 128 == 0,
-        },
+/// The bits of octets, but for so many unused ones at their end.
+fn used_bits(alloc: Global, unused: u8, octets: &[u8]) -> Result<Vec<bool>, AllocError>
+    ensures { IfOk result (λ bits.
+        bits.items ≡ take (8 * length octets.now - unused) (bits_in octets.now)) }
+{
+    joined_bits(alloc, &[Item::Bits(unused, octets)])
+}
+
+/// Whether zeros fill the last octet of bits, of which so many are unused.
+fn are_filled(alloc: Global, unused: u8, octets: &[u8]) -> Result<bool, AllocError>
+    ensures { IfOk result (λ are. are ≡ true →
+        octets.now ≡ spec_octets (take (8 * length octets.now - unused) (bits_in octets.now))) }
+{
+    let bits = used_bits(alloc, unused, octets)?;
+    let filled = octets_of_bits(alloc, &bits)?;
+    Ok(filled.as_slice() == octets)
+}
+
+/// How many bits at the end of octets are unused, where the number of the others is given in decimals, and zeros fill
+/// the last octet.
+fn unused_in(alloc: Global, number: &str, octets: &[u8]) -> Result<Option<u8>, AllocError>
+    ensures number { IfOk result (λ found. MatchOption found (Unit {0})
+        (λ unused. number.now ≡ number_text (8 * length octets.now - unused))) }
+    ensures filled { IfOk result (λ found. MatchOption found (Unit {0})
+        (λ unused. octets.now ≡ spec_octets (take (8 * length octets.now - unused) (bits_in octets.now)))) }
+{
+    let all = used_bits(alloc, 0, octets)?;
+    let Some(unused) = unused_bits(alloc, number, all.len())? else {
+        return Ok(None);
+    };
+    if are_filled(alloc, unused, octets)? {
+        Ok(Some(unused))
+    } else {
+        Ok(None)
     }
 }
 
 /// The octets of a bit string, and how many bits at their end are unused, from the members `value` and `length` of an
 /// object. None are answered where there are others, or where no zeros fill the last octet.
-pub(super) fn bits_of(
+pub(super) fn bits_of<'a>(
     alloc: Global,
-    members: &[(&str, Value<'_>)],
-) -> Result<Option<(u8, Vec<u8>)>, AllocError> {
-    let (Some(Value::String(value)), Some(Value::Number(length))) = (
-        member(members, "value"),
-        member(members, "length"),
-    ) else {
-        return Ok(None);
-    };
+    members: &[(&'a str, Value<'a>)],
+) -> Result<Option<(u8, Vec<u8>)>, AllocError>
+    ensures { IfOk result (λ found. MatchOption found (Unit {0}) (λ bits. DenotesBits
+        (members_view members.now) (take (8 * length bits.1.items - bits.0) (bits_in bits.1.items)))) }
+{
     if members.len() != 2 {
         return Ok(None);
     }
+    let Some((_, Value::String(value))) = member_named(members, "value") else {
+        return Ok(None);
+    };
+    let Some((_, Value::Number(length))) = member_named(members, "length") else {
+        return Ok(None);
+    };
     let Some(octets) = hexadecimal(alloc, value)? else {
         return Ok(None);
     };
-    match unused_bits(alloc, length, octets.len())? {
-        Some(unused) if are_zeros(&octets, unused) => Ok(Some((unused, octets))),
-        _ => Ok(None),
+    match unused_in(alloc, length, &octets)? {
+        Some(unused) => Ok(Some((unused, octets))),
+        None => Ok(None),
     }
 }

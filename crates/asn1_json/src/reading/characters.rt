@@ -1,8 +1,11 @@
 //! The octets of character strings, from texts.
-ghost use Rattle.std.specs.Prelude.{◌≡◌, IfOk, encode_utf8_all, MatchOption};
+ghost use Rattle.std.specs.Prelude.{◌≡◌, true, IfOk, encode_utf8_all, MatchOption};
 ghost use Rattle.std.specs.Str.{chars};
 ghost use Rattle.x690.specs.Characters.{code_of};
+ghost use Rattle.x690.specs.Octets.{IsOctets};
+ghost use Rattle.asn1_json.specs.DenotedLeaves.{DenotesText};
 
+use crate::texts::octet_text;
 use asn1_schema::schema::TextKind;
 use std::alloc::{AllocError, Global};
 use x690::characters::{CharacterCode, Ucs4, Utf16, fill};
@@ -23,10 +26,7 @@ fn coded<C: CharacterCode>(alloc: Global, text: &str) -> Result<Vec<u8>, AllocEr
 }
 
 /// The numbers of the characters of a text. None are answered where one is above 255.
-pub(super) fn character_octets(alloc: Global, text: &str) -> Result<Option<Vec<u8>>, AllocError>
-    ensures { IfOk result (λ found. MatchOption found Unit
-        (λ octets. text.now ≡ encode_utf8_all octets.items)) }
-{
+fn numbers_of(alloc: Global, text: &str) -> Result<Option<Vec<u8>>, AllocError> {
     let mut octets = Vec::with_capacity(alloc, text.len())?;
     for character in text.chars() {
         let code = character as u32;
@@ -38,12 +38,43 @@ pub(super) fn character_octets(alloc: Global, text: &str) -> Result<Option<Vec<u
     Ok(Some(octets))
 }
 
+/// Whether octets are the numbers of the characters of a text.
+fn are_numbers(alloc: Global, octets: &[u8], text: &str) -> Result<bool, AllocError>
+    ensures octets { IfOk result (λ are. are ≡ true → IsOctets octets.now) }
+    ensures text { IfOk result (λ are. are ≡ true → text.now ≡ encode_utf8_all octets.now) }
+{
+    let shown = octet_text(alloc, octets)?;
+    Ok(shown.as_str() == text)
+}
+
+/// The octets that are the numbers of the characters of a text. None are answered where a number is above 255.
+///
+/// That they are is seen from their text.
+pub(super) fn character_octets(alloc: Global, text: &str) -> Result<Option<Vec<u8>>, AllocError>
+    ensures octets { IfOk result (λ found. MatchOption found (Unit {0})
+        (λ octets. IsOctets octets.items)) }
+    ensures text { IfOk result (λ found. MatchOption found (Unit {0})
+        (λ octets. text.now ≡ encode_utf8_all octets.items)) }
+{
+    let Some(octets) = numbers_of(alloc, text)? else {
+        return Ok(None);
+    };
+    if are_numbers(alloc, &octets, text)? {
+        Ok(Some(octets))
+    } else {
+        Ok(None)
+    }
+}
+
 /// The octets of a text in the code of a type of character strings. None are answered where a character has none.
 pub(super) fn text_octets(
     alloc: Global,
     kind: TextKind,
     text: &str,
-) -> Result<Option<Vec<u8>>, AllocError> {
+) -> Result<Option<Vec<u8>>, AllocError>
+    ensures { IfOk result (λ found. MatchOption found (Unit {0})
+        (λ octets. DenotesText kind text.now octets.items)) }
+{
     match kind {
         TextKind::Utf8 => {
             let octets = Vec::from_slice(alloc, text.as_bytes())?;

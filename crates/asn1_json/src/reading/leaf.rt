@@ -1,14 +1,20 @@
 //! Values without parts, from JSON.
-ghost use Rattle.std.specs.Prelude.{◌≡◌, true, Some, MatchResult};
+ghost use Rattle.std.specs.Prelude.{ℤ, Bool, [], ◌≡◌, ◌<◌, ◌++◌, true, Some, IfOk, IfSome, MatchResult, OnOk, length};
+ghost use Rattle.x690.specs.Strict.{header_octets};
+ghost use Rattle.std.specs.declared.vec.Vec.{Vec};
+ghost use Rattle.std.specs.declared.alloc.Global.{Global};
+ghost use Rattle.json.specs.Json.{string};
 ghost use Rattle.json.specs.Value.{value_view};
+ghost use Rattle.asn1_schema.specs.declared.schema.Kind.TheVariants as kinds;
 ghost use Rattle.asn1_schema.specs.Sound.{is_sound};
 ghost use Rattle.asn1_schema.specs.Tape.{leaf_mark, mark, marks};
 ghost use Rattle.asn1_schema.specs.Values.{Leaf, Value as SpecValue, leaf};
 ghost use Rattle.asn1_json.specs.Made.{tape_of_value};
-ghost use Rattle.asn1_json.specs.Outcomes.{DenotesSimple, HasWord, Reads};
-ghost use Rattle.asn1_json.specs.Types.{kind_at, labels_at};
+ghost use Rattle.asn1_json.specs.Outcomes.{DenotesSimple, HasWord, IsElementItem, Makes, Reads};
+ghost use Rattle.asn1_json.specs.Types.{labels_at};
 ghost use Rattle.asn1_json.specs.declared.reading.trail.Fault.TheVariants as faults;
 
+use crate::leaves::element;
 use crate::reading::arcs::{has_arcs, identifier_content};
 use crate::reading::bits::{bits_of, hexadecimal};
 use crate::reading::characters::{character_octets, text_octets};
@@ -23,7 +29,7 @@ use asn1_schema::laws::tapes_begin_with_one_value;
 use asn1_schema::schema::{Kind, TextKind, TimeKind};
 use asn1_schema::tape::Item;
 use json::Value;
-use std::alloc::Global;
+use std::alloc::{AllocError, Global};
 use x690::signed::signed_into;
 
 /// What JSON is read by.
@@ -87,7 +93,9 @@ fn read_boolean(
     made: &mut JsonTape,
     trail: &mut Trail,
 ) -> Result<(), Fault>
-    requires { is_sound by.types.table.now ≡ true }
+    requires sound { is_sound by.types.table.now ≡ true }
+    ensures { OnOk result (Makes (DenotesSimple [] kinds.Boolean
+        (value_view value.now)) made.old made.new) }
 {
     match value {
         Value::Bool(truth) => put(by, of, Item::Boolean(*truth), made, trail),
@@ -103,7 +111,9 @@ fn read_null(
     made: &mut JsonTape,
     trail: &mut Trail,
 ) -> Result<(), Fault>
-    requires { is_sound by.types.table.now ≡ true }
+    requires sound { is_sound by.types.table.now ≡ true }
+    ensures { OnOk result (Makes (DenotesSimple [] kinds.Null
+        (value_view value.now)) made.old made.new) }
 {
     match value {
         Value::Null => put(by, of, Item::Null, made, trail),
@@ -119,7 +129,9 @@ fn read_integer(
     made: &mut JsonTape,
     trail: &mut Trail,
 ) -> Result<(), Fault>
-    requires { is_sound by.types.table.now ≡ true }
+    requires sound { is_sound by.types.table.now ≡ true }
+    ensures { OnOk result (Makes (DenotesSimple [] kinds.Integer
+        (value_view value.now)) made.old made.new) }
 {
     let Value::Number(text) = value else {
         return Err(trail.refused(of, Reason::Integer));
@@ -139,7 +151,10 @@ fn read_name(
     made: &mut JsonTape,
     trail: &mut Trail,
 ) -> Result<(), Fault>
-    requires { is_sound by.types.table.now ≡ true }
+    requires sound { is_sound by.types.table.now ≡ true }
+    ensures { (numbers : Vec ℤ Global) (extensible : Bool) → OnOk result (Makes (DenotesSimple
+        (labels_at by.entry.types.names.now (Some at)) (kinds.Enumerated numbers extensible)
+        (string name.now)) made.old made.new) }
 {
     let Some(number) = by.types.number(at, name) else {
         return Err(trail.refused(of, Reason::Listed));
@@ -159,7 +174,10 @@ fn read_listed(
     made: &mut JsonTape,
     trail: &mut Trail,
 ) -> Result<(), Fault>
-    requires { is_sound by.types.table.now ≡ true }
+    requires sound { is_sound by.types.table.now ≡ true }
+    ensures { (numbers : Vec ℤ Global) (extensible : Bool) → OnOk result (Makes (DenotesSimple
+        (labels_at by.entry.types.names.now (Some at)) (kinds.Enumerated numbers extensible)
+        (value_view value.now)) made.old made.new) }
 {
     match value {
         Value::String(name) => read_name(by, of, at, name, made, trail),
@@ -179,7 +197,9 @@ fn read_bits(
     made: &mut JsonTape,
     trail: &mut Trail,
 ) -> Result<(), Fault>
-    requires { is_sound by.types.table.now ≡ true }
+    requires sound { is_sound by.types.table.now ≡ true }
+    ensures { (named : Bool) → OnOk result (Makes (DenotesSimple [] (kinds.Bits named)
+        (value_view value.now)) made.old made.new) }
 {
     let Value::Object(members) = value else {
         return Err(trail.refused(of, Reason::Bits));
@@ -198,7 +218,9 @@ fn read_octets(
     made: &mut JsonTape,
     trail: &mut Trail,
 ) -> Result<(), Fault>
-    requires { is_sound by.types.table.now ≡ true }
+    requires sound { is_sound by.types.table.now ≡ true }
+    ensures { OnOk result (Makes (DenotesSimple [] kinds.Octets
+        (string text.now)) made.old made.new) }
 {
     match hexadecimal(by.alloc, text)? {
         Some(octets) => put(by, of, Item::Octets(&octets), made, trail),
@@ -215,7 +237,9 @@ fn read_identifier(
     made: &mut JsonTape,
     trail: &mut Trail,
 ) -> Result<(), Fault>
-    requires { is_sound by.types.table.now ≡ true }
+    requires sound { is_sound by.types.table.now ≡ true }
+    ensures { OnOk result (Makes (DenotesSimple [] (kinds.Identifier relative)
+        (string text.now)) made.old made.new) }
 {
     let content = if has_arcs(relative, text) {
         identifier_content(by.alloc, relative, text)?
@@ -237,7 +261,9 @@ fn read_text(
     made: &mut JsonTape,
     trail: &mut Trail,
 ) -> Result<(), Fault>
-    requires { is_sound by.types.table.now ≡ true }
+    requires sound { is_sound by.types.table.now ≡ true }
+    ensures { OnOk result (Makes (DenotesSimple [] (kinds.Text kind)
+        (string text.now)) made.old made.new) }
 {
     match text_octets(by.alloc, kind, text)? {
         Some(octets) => put(by, of, Item::Text(kind, &octets), made, trail),
@@ -254,7 +280,9 @@ fn read_time(
     made: &mut JsonTape,
     trail: &mut Trail,
 ) -> Result<(), Fault>
-    requires { is_sound by.types.table.now ≡ true }
+    requires sound { is_sound by.types.table.now ≡ true }
+    ensures { OnOk result (Makes (DenotesSimple [] (kinds.Time kind)
+        (string text.now)) made.old made.new) }
 {
     match character_octets(by.alloc, text)? {
         Some(octets) => put(by, of, Item::Time(kind, &octets), made, trail),
@@ -262,17 +290,42 @@ fn read_time(
     }
 }
 
+/// Whether octets are the element with these parts and a strict header.
+fn is_element(
+    alloc: Global,
+    octets: &[u8],
+    class: u8,
+    constructed: bool,
+    number: u32,
+    content: &[u8],
+) -> Result<bool, AllocError>
+    ensures class { IfOk result (λ is. is ≡ true → class < 4) }
+    ensures octets { IfOk result (λ is. is ≡ true → octets.now ≡
+        header_octets class constructed number (length content.now) ++ content.now) }
+{
+    if class >= 4 {
+        return Ok(false);
+    }
+    let own = element(alloc, class, constructed, number, content)?;
+    Ok(own.as_bytes() == octets)
+}
+
 /// The one element that octets are, as an item.
-fn element_of(octets: &[u8]) -> Option<Item<'_>> {
-    match element_by_der(octets) {
-        Ok((rest, (header, content))) => {
-            if !rest.is_empty() {
-                return None;
-            }
-            let class = header.class().number();
-            Some(Item::Any(class, header.constructed(), header.tag().0, content))
-        }
-        Err(_) => None,
+///
+/// That they are is seen from its strict encoding.
+fn element_of(alloc: Global, octets: &[u8]) -> Result<Option<Item<'_>>, AllocError>
+    ensures { IfOk result (λ found. IfSome found (IsElementItem octets.now)) }
+{
+    let Ok((_, (header, content))) = element_by_der(octets) else {
+        return Ok(None);
+    };
+    let class = header.class().number();
+    let constructed = header.constructed();
+    let number = header.tag().0;
+    if is_element(alloc, octets, class, constructed, number, content)? {
+        Ok(Some(Item::Any(class, constructed, number, content)))
+    } else {
+        Ok(None)
     }
 }
 
@@ -284,12 +337,14 @@ fn read_element(
     made: &mut JsonTape,
     trail: &mut Trail,
 ) -> Result<(), Fault>
-    requires { is_sound by.types.table.now ≡ true }
+    requires sound { is_sound by.types.table.now ≡ true }
+    ensures { OnOk result (Makes (DenotesSimple [] kinds.Any (string text.now))
+        made.old made.new) }
 {
     let Some(octets) = hexadecimal(by.alloc, text)? else {
         return Err(trail.refused(of, Reason::Element));
     };
-    match element_of(&octets) {
+    match element_of(by.alloc, &octets)? {
         Some(item) => put(by, of, item, made, trail),
         None => Err(trail.refused(of, Reason::Element)),
     }
@@ -316,7 +371,9 @@ fn read_string(
     made: &mut JsonTape,
     trail: &mut Trail,
 ) -> Result<(), Fault>
-    requires { is_sound by.types.table.now ≡ true }
+    requires sound { is_sound by.types.table.now ≡ true }
+    ensures { OnOk result (Makes (DenotesSimple [] kind.now (value_view value.now))
+        made.old made.new) }
 {
     let Value::String(text) = value else {
         return Err(trail.refused(of, no_string(kind)));
@@ -343,9 +400,8 @@ pub(super) fn read_leaf(
     trail: &mut Trail,
 ) -> Result<(), Fault>
     requires sound { is_sound by.types.table.now ≡ true }
-    requires kind { kind_at by.types.table.now (Some at) ≡ Some kind.now }
-    ensures { Reads tape_of_value (DenotesSimple (labels_at by.entry.types.names.now (Some at)) kind.now
-        (value_view value.now)) (HasWord by.entry.types.table.now by.entry.depth of) made.old made.new result }
+    ensures { OnOk result (Makes (DenotesSimple (labels_at by.entry.types.names.now (Some at))
+        kind.now (value_view value.now)) made.old made.new) }
 {
     match kind {
         Kind::Boolean => read_boolean(by, of, value, made, trail),

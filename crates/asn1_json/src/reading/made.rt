@@ -1,6 +1,6 @@
 //! Tapes that are made item by item, and own their octets.
-ghost use Rattle.std.specs.Prelude.{ℕ, List, [], ◌∷◌, ◌++◌, ◌≡◌, ◌↔◌, OnOk, IfOk, IsTrue, length, take, drop};
-ghost use Rattle.asn1_schema.specs.Tape.{begin_mark, mark, marks};
+ghost use Rattle.std.specs.Prelude.{ℕ, List, [], ◌∷◌, ◌++◌, ◌≡◌, ◌↔◌, OnOk, IfOk, IsTrue, length, drop};
+ghost use Rattle.asn1_schema.specs.Tape.{Mark, begin_mark, mark, marks};
 ghost use Rattle.asn1_schema.specs.Owned.{lent, filled, span};
 ghost use Rattle.asn1_json.specs.Made.{made_marks, made_with};
 ghost use Rattle.asn1_json.specs.Outcomes.{Appends, Closes};
@@ -156,54 +156,47 @@ impl JsonTape {
         Ok(place)
     }
 
+    /// The row that begins at a place has so many items.
+    fn set_count(&mut self, place: usize, count: usize)
+        ensures octets { self.new.octets.items ≡ self.old.octets.items }
+        ensures begins { (others : List ℕ) (front inner : List Mark) → length front ≡ place →
+            made_with self.old others ≡ front ++ begin_mark 0 ∷ inner →
+            made_with self.new others ≡ front ++ begin_mark count ∷ inner }
+    {
+        if place < self.items.len() {
+            self.items[place] = Placed {
+                shape: Item::Begin(count),
+                start: 0,
+                len: 0,
+            };
+        }
+    }
+
     /// The row that began at a place ends.
     pub(super) fn close(&mut self, place: usize) -> Result<(), AllocError>
         ensures { OnOk result (Closes self.old self.new place) }
     {
         let count = self.items.len().saturating_sub(place).saturating_sub(1);
-        if let Some(begin) = self.items.get_mut(place) {
-            begin.shape = Item::Begin(count);
-        }
-        self.push(&Item::End(count))
+        self.set_count(place, count);
+        self.put(&Item::End(count))
     }
 
-    /// Puts the items from a place on, which are lent from here, on a tape that is emptied first.
-    pub(super) fn lend_from<'t>(
-        &'t self,
-        start: usize,
-        tape: &mut Vec<Item<'t>>,
-    ) -> Result<(), AllocError>
-        ensures { OnOk result (marks tape.new.items ≡ drop start (made_marks self.now)) }
+    /// The items from a place on. Their octets are lent from here.
+    pub(super) fn lend_from(&self, alloc: Global, start: usize) -> Result<Vec<Item<'_>>, AllocError>
+        ensures { IfOk result (λ tape. marks tape.items ≡ drop start (made_marks self.now)) }
     {
-        tape.clear();
+        let mut tape = Vec::new(alloc);
         for placed in items_from(&self.items, start) {
             let octets = octets_at(&self.octets, placed.start, placed.len);
             tape.push(with_octets(&placed.shape, octets))?;
         }
-        Ok(())
+        Ok(tape)
     }
 
-    /// Puts the items on a tape that is emptied first. They are lent from here.
-    pub fn lend<'t>(&'t self, tape: &mut Vec<Item<'t>>) -> Result<(), AllocError>
-        ensures { OnOk result (marks tape.new.items ≡ made_marks self.now) }
+    /// The items. Their octets are lent from here.
+    pub fn lend(&self, alloc: Global) -> Result<Vec<Item<'_>>, AllocError>
+        ensures { IfOk result (λ tape. marks tape.items ≡ made_marks self.now) }
     {
-        self.lend_from(0, tape)
-    }
-
-    /// The items from a place on.
-    pub(super) fn items_from(&self, start: usize) -> &[Placed]
-        ensures { result.now ≡ drop start self.now.items.items }
-    {
-        items_from(&self.items, start)
-    }
-
-    /// Puts other items in the place of those from a place on. Their octets lie here.
-    pub(super) fn replace_from(&mut self, start: usize, items: &[Placed]) -> Result<(), AllocError>
-        ensures octets { self.new.octets.items ≡ self.old.octets.items }
-        ensures items { OnOk result (self.new.items.items ≡
-            take start self.old.items.items ++ items.now) }
-    {
-        self.items.truncate(start);
-        self.items.extend_from_slice(items)
+        self.lend_from(alloc, 0)
     }
 }

@@ -1,7 +1,11 @@
 //! The members of objects, by the names of parts.
-ghost use Rattle.std.specs.Prelude.{◌≡◌, None, Some, IfOk, MatchOption, get_or};
+ghost use Rattle.std.specs.Prelude.{◌≡◌, None, Some, IfOk, IfSome, MatchOption, OnOk, true, string_bytes};
 ghost use Rattle.json.specs.Find.{get_member};
-ghost use Rattle.json.specs.Value.{members_view};
+ghost use Rattle.json.specs.Value.{members_view, value_view};
+ghost use Rattle.asn1_json.specs.Denotes.{AreNamed, IsNameOfField, IsNameOfPart, arm_from};
+ghost use Rattle.asn1_json.specs.Tokens.{name_of_arm, name_of_field, seen, type_of_unknown};
+ghost use Rattle.asn1_json.specs.Types.{arms_of, kind_at, or_name};
+ghost use Rattle.asn1_words.specs.Words.{number_text};
 
 use crate::leaves::count_text;
 use crate::reading::trail::{Fault, Reason, Step, Trail};
@@ -9,20 +13,27 @@ use crate::types::Types;
 use json::Value;
 use std::alloc::{AllocError, Global};
 
-/// The place of the last member with a name.
-pub(super) fn place_of(members: &[(&str, Value<'_>)], name: &str) -> Option<usize> {
-    let mut left = members.len();
-    while left > 0 {
-        left -= 1;
-        if members[left].0 == name {
-            return Some(left);
+/// The last member with a name, and its place.
+pub(super) fn member_named<'m, 'a>(
+    members: &'m [(&'a str, Value<'a>)],
+    name: &str,
+) -> Option<(usize, &'m Value<'a>)>
+    ensures { MatchOption result (get_member name.now (members_view members.now) ≡ None)
+        (λ found. get_member name.now (members_view members.now) ≡ Some (value_view found.1.now)) }
+{
+    let mut found = None;
+    for (place, member) in members.iter().enumerate() {
+        if member.0 == name {
+            found = Some((place, &member.1));
         }
     }
-    None
+    found
 }
 
 /// The name of a part, or its number where it has none.
-fn name_or_number(alloc: Global, name: &str, number: usize) -> Result<String, AllocError> {
+fn name_or_number(alloc: Global, name: &str, number: usize) -> Result<String, AllocError>
+    ensures { IfOk result (λ text. string_bytes text ≡ or_name name.now (number_text number)) }
+{
     if name.is_empty() {
         return count_text(alloc, number);
     }
@@ -35,8 +46,12 @@ pub(super) fn field_name(
     types: Types<'_, '_>,
     row: usize,
     place: usize,
-) -> Result<String, AllocError> {
-    name_or_number(alloc, types.name(Some(row), Some(place as i128)), place)
+) -> Result<String, AllocError>
+    ensures { IfOk result (λ text.
+        string_bytes text ≡ name_of_field (seen types.entry) (Some row) place) }
+{
+    let name = types.name(Some(row), Some(place as i128));
+    name_or_number(alloc, name, place)
 }
 
 /// The name of an arm. An arm of any element without a name is unknown.
@@ -45,9 +60,12 @@ fn arm_name(
     types: Types<'_, '_>,
     choice: usize,
     arm: usize,
-) -> Result<String, AllocError> {
+) -> Result<String, AllocError>
+    ensures { IfOk result (λ text.
+        string_bytes text ≡ name_of_arm (seen types.entry) (Some choice) arm) }
+{
     let name = types.name(Some(choice), Some(arm as i128));
-    if name.is_empty() && types.is_any(types.of_arm(Some(choice), arm)) {
+    if types.is_any(types.of_arm(Some(choice), arm)) && name.is_empty() {
         return String::from_str(alloc, "...");
     }
     name_or_number(alloc, name, arm)
@@ -59,7 +77,10 @@ pub(super) fn arm_named(
     types: Types<'_, '_>,
     choice: usize,
     name: &str,
-) -> Result<Option<usize>, AllocError> {
+) -> Result<Option<usize>, AllocError>
+    ensures { IfOk result (λ found. IfSome found (λ arm. arm_from (seen types.entry) choice name.now
+        (arms_of (kind_at types.entry.table.now (Some choice))) 0 ≡ Some arm)) }
+{
     for arm in 0..types.arms(Some(choice)).len() {
         let own = arm_name(alloc, types, choice, arm)?;
         if own.as_str() == name {
@@ -69,45 +90,66 @@ pub(super) fn arm_named(
     Ok(None)
 }
 
-/// The names of the fields of a row.
-fn field_names(alloc: Global, types: Types<'_, '_>, row: usize) -> Result<Vec<String>, AllocError> {
-    let mut names = Vec::new(alloc);
+/// Whether a field of a row has a name.
+fn has_field_named(
+    alloc: Global,
+    types: Types<'_, '_>,
+    row: usize,
+    name: &str,
+) -> Result<bool, AllocError>
+    ensures { IfOk result (λ is. is ≡ true → IsNameOfField (seen types.entry) row name.now) }
+{
     for place in 0..types.fields(Some(row)).len() {
-        let name = field_name(alloc, types, row, place)?;
-        names.push(name)?;
-    }
-    Ok(names)
-}
-
-/// Whether a name is among others.
-fn is_among(names: &[String], name: &str) -> bool {
-    for own in names {
+        let own = field_name(alloc, types, row, place)?;
         if own.as_str() == name {
-            return true;
+            return Ok(true);
         }
     }
-    false
+    Ok(false)
+}
+
+/// Whether a name is that of a field, or `...` where unknown elements may follow them.
+fn is_name_of_part(
+    alloc: Global,
+    types: Types<'_, '_>,
+    row: usize,
+    name: &str,
+) -> Result<bool, AllocError>
+    ensures { IfOk result (λ is. is ≡ true →
+        IsNameOfPart (seen types.entry) row (type_of_unknown (seen types.entry) (Some row)) name.now) }
+{
+    if let Some(_of) = types.of_unknown(Some(row)) {
+        if name == "..." {
+            return Ok(true);
+        }
+    }
+    has_field_named(alloc, types, row, name)
 }
 
 /// Tells whether each member of an object has the name of a field of the row, or `...` where unknown elements may
 /// follow them, and none has the name of another.
-pub(super) fn judge_names(
+pub(super) fn judge_names<'a>(
     alloc: Global,
     types: Types<'_, '_>,
     row: usize,
-    members: &[(&str, Value<'_>)],
+    members: &[(&'a str, Value<'a>)],
     trail: &mut Trail,
-) -> Result<(), Fault> {
-    let names = field_names(alloc, types, row)?;
-    let is_open = types.of_unknown(Some(row)).is_some();
-    for (place, member) in members.iter().enumerate() {
+) -> Result<(), Fault>
+    ensures { OnOk result (AreNamed (seen types.entry) row
+        (type_of_unknown (seen types.entry) (Some row)) (members_view members.now)) }
+{
+    let mut rest = members;
+    while let [member, others @ ..] = rest {
+        let place = members.len() - rest.len();
         let name = member.0;
-        if !is_among(&names, name) && !(is_open && name == "...") {
+        if !is_name_of_part(alloc, types, row, name)? {
             return Err(trail.refused_at(Step::Name(place), row, Reason::UnknownName));
         }
-        if place_of(members.split_at(place.min(members.len())).0, name).is_some() {
-            return Err(trail.refused_at(Step::Name(place), row, Reason::RepeatedName));
+        if let Some((behind, _)) = member_named(others, name) {
+            let again = place.saturating_add(1).saturating_add(behind);
+            return Err(trail.refused_at(Step::Name(again), row, Reason::RepeatedName));
         }
+        rest = others;
     }
     Ok(())
 }

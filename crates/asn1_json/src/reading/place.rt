@@ -43,7 +43,9 @@ fn take(reader: &mut Reader<'_>, step: Step) {
 }
 
 /// The octet at which the part begins that steps lead to.
-pub(super) fn octet_of(alloc: Global, text: &str, steps: &[Step]) -> Result<usize, AllocError> {
+pub(super) fn octet_of(alloc: Global, text: &str, steps: &[Step]) -> Result<usize, AllocError>
+    ensures { IfOk result (λ octet. octet ≤ length text.now) }
+{
     let mut scratch = Scratch::new(alloc);
     let mut reader = Reader::new(text, &mut scratch)?;
     for step in steps {
@@ -53,7 +55,9 @@ pub(super) fn octet_of(alloc: Global, text: &str, steps: &[Step]) -> Result<usiz
 }
 
 /// The octet at which a text is no longer JSON, or behind what stands there.
-pub(super) fn octet_of_fault(alloc: Global, text: &str) -> Result<usize, AllocError> {
+pub(super) fn octet_of_fault(alloc: Global, text: &str) -> Result<usize, AllocError>
+    ensures { IfOk result (λ octet. octet ≤ length text.now) }
+{
     let mut scratch = Scratch::new(alloc);
     let mut reader = Reader::new(text, &mut scratch)?;
     let _ = reader.skip_value(MAX_DEPTH);
@@ -97,6 +101,15 @@ fn follow<'v, 'a>(
     }
 }
 
+/// Appends the names that steps lead by.
+fn push_steps(path: &mut Vec<u8>, value: &Value<'_>, steps: &[Step]) -> Result<(), AllocError> {
+    let [step, others @ ..] = steps else {
+        return Ok(());
+    };
+    let part = follow(path, value, *step)?;
+    push_steps(path, part, others)
+}
+
 /// The names that lead to what is refused, with points between them; the places of items stand in brackets, from 0.
 pub(super) fn path_of(
     alloc: Global,
@@ -105,10 +118,7 @@ pub(super) fn path_of(
     trail: &Trail,
 ) -> Result<Vec<u8>, AllocError> {
     let mut path = Vec::new(alloc);
-    let mut part = value;
-    for step in &trail.steps {
-        part = follow(&mut path, part, *step)?;
-    }
+    push_steps(&mut path, value, &trail.steps)?;
     if let Some((row, place)) = trail.missing {
         let name = field_name(alloc, types, row, place)?;
         push_name(&mut path, name.as_str())?;

@@ -1,21 +1,20 @@
 //! Values with parts, from JSON.
-ghost use Rattle.std.specs.Prelude.{ℕ, ◌≡◌, true, List, Option, Some};
-ghost use Rattle.json.specs.Value.{items_view, value_view};
+ghost use Rattle.std.specs.Prelude.{ℕ, ◌≡◌, true, IfOk, OnOk, Option, Some, codes, length, map};
+ghost use Rattle.json.specs.Find.{get_member};
+ghost use Rattle.json.specs.Value.{members_view, value_view};
 ghost use Rattle.asn1_schema.specs.Grammar.{Word};
 ghost use Rattle.asn1_schema.specs.Rules.{der};
 ghost use Rattle.asn1_schema.specs.Sound.{is_sound};
-ghost use Rattle.asn1_schema.specs.declared.schema.Field.{Field as SpecField};
-ghost use Rattle.asn1_json.specs.Denotes.{Denotes, DenoteItems, DenotesChosen, DenotesRow};
-ghost use Rattle.asn1_json.specs.Made.{tape_of_value};
-ghost use Rattle.asn1_json.specs.Outcomes.{HasWord, IsArmOfWord, IsRowKind, IsRowOfWords, ItemsHaveWords};
-ghost use Rattle.asn1_json.specs.Outcomes.{LeftOutOnce, Reads, tapes_of_values};
-ghost use Rattle.asn1_json.specs.Tokens.{seen};
-ghost use Rattle.asn1_json.specs.Types.{arms_of, kind_at};
+ghost use Rattle.asn1_json.specs.Denotes.{Denotes, DenotesChosen, DenotesKind, DenotesRow, DenoteUnknown};
+ghost use Rattle.asn1_json.specs.Outcomes.{AreMembers, DenoteFirst, DenotesItems, DenotesList, DenotesOnce};
+ghost use Rattle.asn1_json.specs.Outcomes.{DenotesSet, LeftOutOnce, Makes, MakesRow, document_of};
+ghost use Rattle.asn1_json.specs.Tokens.{name_of_field, seen, type_of_unknown};
+ghost use Rattle.asn1_json.specs.Types.{arms_of, fields_of, kind_at};
 
-use crate::reading::arranged::arrange;
+use crate::reading::arranged::{Member, arrange, encoded, put_members};
 use crate::reading::leaf::{By, judge, read_leaf};
 use crate::reading::made::JsonTape;
-use crate::reading::names::{arm_named, field_name, judge_names, place_of};
+use crate::reading::names::{arm_named, field_name, judge_names, member_named};
 use crate::reading::trail::{Fault, Reason, Step, Trail};
 use asn1_schema::decode::{DecodeError, decode_der_whole};
 use asn1_schema::refusal::Refusal;
@@ -32,8 +31,8 @@ fn put_default(
     trail: &mut Trail,
 ) -> Result<(), Fault>
     requires sound { is_sound by.types.table.now ≡ true }
-    ensures { Reads tape_of_value (Word der by.entry.types.table.now by.entry.depth of octets.now) (λ v. Unit {0})
-        made.old made.new result }
+    ensures { OnOk result (Makes (Word der by.entry.types.table.now by.entry.depth of octets.now)
+        made.old made.new) }
 {
     let mut tape = Vec::new(by.alloc);
     let mut refusal = Refusal::none();
@@ -64,8 +63,8 @@ fn leave_out(
     trail: &mut Trail,
 ) -> Result<(), Fault>
     requires sound { is_sound by.types.table.now ≡ true }
-    ensures { Reads tapes_of_values (LeftOutOnce by.entry.types.table.now by.entry.depth field.now)
-        (λ vs. Unit {0}) made.old made.new result }
+    ensures { OnOk result (MakesRow (LeftOutOnce by.entry.types.table.now by.entry.depth field.now)
+        made.old made.new) }
 {
     match &field.presence {
         Presence::Required => Err(trail.lacks(field.of, row, place)),
@@ -79,39 +78,49 @@ fn leave_out(
 
 /// A component of a row.
 #[cycle(making)]
-fn read_field(
+fn read_field<'a>(
     by: By<'_, '_>,
     depth: usize,
     row: usize,
     place: usize,
     field: &Field,
-    members: &[(&str, Value<'_>)],
+    members: &[(&'a str, Value<'a>)],
     made: &mut JsonTape,
     trail: &mut Trail,
 ) -> Result<(), Fault>
-    requires { is_sound by.types.table.now ≡ true }
+    requires sound { is_sound by.types.table.now ≡ true }
+    ensures { OnOk result (MakesRow (DenotesOnce (seen by.entry.types) by.entry.depth
+        (Denotes (seen by.entry.types) by.entry.depth depth) field.now
+        (get_member (name_of_field (seen by.entry.types) (Some row) place) (members_view members.now)))
+        made.old made.new) }
 {
     let name = field_name(by.alloc, by.types, row, place)?;
-    let Some(member) = place_of(members, name.as_str()) else {
-        return leave_out(by, row, place, field, made, trail);
-    };
-    trail.enter(Step::Member(member))?;
-    read_value(by, depth, field.of, &members[member].1, made, trail)?;
-    trail.leave();
-    Ok(())
+    match member_named(members, name.as_str()) {
+        None => leave_out(by, row, place, field, made, trail),
+        Some((member, value)) => {
+            trail.enter(Step::Member(member))?;
+            read_value(by, depth, field.of, value, made, trail)?;
+            trail.leave();
+            Ok(())
+        }
+    }
 }
 
 /// The components of a row.
 #[cycle(making)]
-fn read_fields(
+fn read_fields<'a>(
     by: By<'_, '_>,
     depth: usize,
     row: usize,
-    members: &[(&str, Value<'_>)],
+    members: &[(&'a str, Value<'a>)],
     made: &mut JsonTape,
     trail: &mut Trail,
 ) -> Result<(), Fault>
-    requires { is_sound by.types.table.now ≡ true }
+    requires sound { is_sound by.types.table.now ≡ true }
+    ensures { (unknown : Option ℕ) → OnOk result (MakesRow (DenoteFirst (seen by.entry.types)
+        by.entry.depth (Denotes (seen by.entry.types) by.entry.depth depth) row unknown
+        (members_view members.now) (fields_of (kind_at by.entry.types.table.now (Some row)))
+        (length (fields_of (kind_at by.entry.types.table.now (Some row))))) made.old made.new) }
 {
     for (place, field) in by.types.fields(Some(row)).iter().enumerate() {
         read_field(by, depth, row, place, field, members, made, trail)?;
@@ -119,23 +128,27 @@ fn read_fields(
     Ok(())
 }
 
-/// The members of a list.
+/// An array of values of a type. `of` is the place of the type that it is refused for.
 #[cycle(making)]
-fn read_items(
+fn read_array(
     by: By<'_, '_>,
     depth: usize,
     of: usize,
-    items: &[Value<'_>],
+    inner: usize,
+    value: &Value<'_>,
     made: &mut JsonTape,
     trail: &mut Trail,
 ) -> Result<(), Fault>
     requires sound { is_sound by.types.table.now ≡ true }
-    ensures { Reads tapes_of_values (DenoteItems (Denotes (seen by.entry.types) by.entry.depth depth of)
-        (items_view items.now)) (ItemsHaveWords by.entry.types.table.now by.entry.depth of) made.old made.new result }
+    ensures { OnOk result (MakesRow (DenotesItems (Denotes (seen by.entry.types) by.entry.depth depth inner)
+        (value_view value.now)) made.old made.new) }
 {
+    let Value::Array(items) = value else {
+        return Err(trail.refused(of, Reason::Array));
+    };
     for (place, item) in items.iter().enumerate() {
         trail.enter(Step::Item(place))?;
-        read_value(by, depth, of, item, made, trail)?;
+        read_value(by, depth, inner, item, made, trail)?;
         trail.leave();
     }
     Ok(())
@@ -143,27 +156,27 @@ fn read_items(
 
 /// The unknown elements behind the components of a row: the member `...`, where there is one.
 #[cycle(making)]
-fn read_unknown(
+fn read_unknown<'a>(
     by: By<'_, '_>,
     depth: usize,
     row: usize,
-    members: &[(&str, Value<'_>)],
+    members: &[(&'a str, Value<'a>)],
     made: &mut JsonTape,
     trail: &mut Trail,
 ) -> Result<(), Fault>
-    requires { is_sound by.types.table.now ≡ true }
+    requires sound { is_sound by.types.table.now ≡ true }
+    ensures { OnOk result (MakesRow (DenoteUnknown (Denotes (seen by.entry.types) by.entry.depth depth)
+        (type_of_unknown (seen by.entry.types) (Some row))
+        (get_member (codes "...") (members_view members.now))) made.old made.new) }
 {
     let Some(of) = by.types.of_unknown(Some(row)) else {
         return Ok(());
     };
-    let Some(member) = place_of(members, "...") else {
+    let Some((member, value)) = member_named(members, "...") else {
         return Ok(());
     };
     trail.enter(Step::Member(member))?;
-    let Value::Array(items) = &members[member].1 else {
-        return Err(trail.refused(of, Reason::Array));
-    };
-    read_items(by, depth, of, items, made, trail)?;
+    read_array(by, depth, of, of, value, made, trail)?;
     trail.leave();
     Ok(())
 }
@@ -180,11 +193,10 @@ fn read_row(
     trail: &mut Trail,
 ) -> Result<(), Fault>
     requires sound { is_sound by.types.table.now ≡ true }
-    ensures { (fields : List SpecField) (unknown : Option ℕ) →
-        IsRowKind (kind_at by.entry.types.table.now (Some row)) fields unknown →
-        Reads tape_of_value (DenotesRow (seen by.entry.types) by.entry.depth
-        (Denotes (seen by.entry.types) by.entry.depth depth) row fields unknown (value_view value.now))
-        (IsRowOfWords by.entry.types.table.now by.entry.depth unknown fields) made.old made.new result }
+    ensures { OnOk result (Makes (DenotesRow (seen by.entry.types) by.entry.depth
+        (Denotes (seen by.entry.types) by.entry.depth depth) row
+        (fields_of (kind_at by.entry.types.table.now (Some row)))
+        (type_of_unknown (seen by.entry.types) (Some row)) (value_view value.now)) made.old made.new) }
 {
     let Value::Object(members) = value else {
         return Err(trail.refused(of, Reason::Object));
@@ -197,28 +209,75 @@ fn read_row(
     Ok(())
 }
 
-/// A list of values of a type. Those of a set are arranged.
+/// A list of values of a type.
 #[cycle(making)]
 fn read_list(
     by: By<'_, '_>,
     depth: usize,
     of: usize,
     inner: usize,
-    is_set: bool,
     value: &Value<'_>,
     made: &mut JsonTape,
     trail: &mut Trail,
 ) -> Result<(), Fault>
-    requires { is_sound by.types.table.now ≡ true }
+    requires sound { is_sound by.types.table.now ≡ true }
+    ensures { OnOk result (Makes (DenotesList (Denotes (seen by.entry.types) by.entry.depth depth inner)
+        (value_view value.now)) made.old made.new) }
+{
+    let begin = made.open()?;
+    read_array(by, depth, of, inner, value, made, trail)?;
+    made.close(begin)?;
+    Ok(())
+}
+
+/// The members of a set-of, as they stand.
+#[cycle(making)]
+fn read_members<'v, 'a>(
+    by: By<'_, '_>,
+    depth: usize,
+    of: usize,
+    items: &'v [Value<'a>],
+    trail: &mut Trail,
+) -> Result<Vec<Member<'v, 'a>>, Fault>
+    requires sound { is_sound by.types.table.now ≡ true }
+    ensures all { IfOk result (λ members. map document_of members.items ≡ map value_view items.now) }
+    ensures each { IfOk result (λ members. AreMembers
+        (Denotes (seen by.entry.types) by.entry.depth depth of) members.items) }
+{
+    let mut members = Vec::new(by.alloc);
+    for (place, item) in items.iter().enumerate() {
+        trail.enter(Step::Item(place))?;
+        let mut made = JsonTape::new(by.alloc);
+        read_value(by, depth, of, item, &mut made, trail)?;
+        let octets = encoded(by, of, &made, trail)?;
+        trail.leave();
+        members.push(Member { item, made, octets })?;
+    }
+    Ok(members)
+}
+
+/// A set of values of a type. They are arranged.
+#[cycle(making)]
+fn read_set(
+    by: By<'_, '_>,
+    depth: usize,
+    of: usize,
+    inner: usize,
+    value: &Value<'_>,
+    made: &mut JsonTape,
+    trail: &mut Trail,
+) -> Result<(), Fault>
+    requires sound { is_sound by.types.table.now ≡ true }
+    ensures { OnOk result (Makes (DenotesSet (Denotes (seen by.entry.types) by.entry.depth depth inner)
+        (value_view value.now)) made.old made.new) }
 {
     let Value::Array(items) = value else {
         return Err(trail.refused(of, Reason::Array));
     };
+    let mut members = read_members(by, depth, inner, items, trail)?;
+    arrange(&mut members)?;
     let begin = made.open()?;
-    read_items(by, depth, inner, items, made, trail)?;
-    if is_set {
-        arrange(by, inner, begin + 1, made, trail)?;
-    }
+    put_members(by.alloc, &members, made)?;
     made.close(begin)?;
     Ok(())
 }
@@ -235,10 +294,10 @@ fn read_choice(
     trail: &mut Trail,
 ) -> Result<(), Fault>
     requires sound { is_sound by.types.table.now ≡ true }
-    ensures { (arms : List ℕ) → arms ≡ arms_of (kind_at by.entry.types.table.now (Some choice)) →
-        Reads tape_of_value (DenotesChosen (seen by.entry.types)
-        (Denotes (seen by.entry.types) by.entry.depth depth) choice arms (value_view value.now))
-        (IsArmOfWord (seen by.entry.types) by.entry.depth choice) made.old made.new result }
+    ensures { OnOk result (Makes (DenotesChosen (seen by.entry.types)
+        (Denotes (seen by.entry.types) by.entry.depth depth) choice
+        (arms_of (kind_at by.entry.types.table.now (Some choice))) (value_view value.now))
+        made.old made.new) }
 {
     let Value::Object(members) = value else {
         return Err(trail.refused(of, Reason::OneMember));
@@ -260,23 +319,65 @@ fn read_choice(
     Ok(())
 }
 
-/// Tells whether what stands on the tape from a place on is a value of a type, where its parts alone do not say it: its
-/// size has bounds, or unknown elements stand in a set.
+/// Puts the value of a kind that JSON denotes on a tape. `of` is the place of its type, and `at` that of the type that
+/// all tags and bounds are on.
+#[cycle(making)]
+fn read_kind(
+    by: By<'_, '_>,
+    depth: usize,
+    of: usize,
+    at: usize,
+    kind: &Kind,
+    value: &Value<'_>,
+    made: &mut JsonTape,
+    trail: &mut Trail,
+) -> Result<(), Fault>
+    requires sound { is_sound by.types.table.now ≡ true }
+    requires kind { kind_at by.types.table.now (Some at) ≡ Some kind.now }
+    ensures { OnOk result (Makes (DenotesKind (seen by.entry.types) by.entry.depth
+        (Denotes (seen by.entry.types) by.entry.depth depth) at (Some kind.now) (value_view value.now))
+        made.old made.new) }
+{
+    match kind {
+        Kind::Sequence(_, _) => read_row(by, depth, of, at, value, made, trail),
+        Kind::Set(_, _) => read_row(by, depth, of, at, value, made, trail),
+        Kind::SequenceOf(inner) => read_list(by, depth, of, *inner, value, made, trail),
+        Kind::SetOf(inner) => read_set(by, depth, of, *inner, value, made, trail),
+        Kind::Choice(_) => read_choice(by, depth, of, at, value, made, trail),
+        _ => read_leaf(by, of, at, kind, value, made, trail),
+    }
+}
+
+/// Whether the parts of a value alone may not say whether it is one of a type: its size has bounds, or unknown elements
+/// stand in a set.
+fn is_judged_whole(of: usize, at: usize, kind: &Kind) -> bool {
+    match kind {
+        Kind::Set(_, Some(_)) => true,
+        Kind::Sequence(_, _) => of != at,
+        Kind::Set(_, _) => of != at,
+        Kind::SequenceOf(_) => of != at,
+        Kind::SetOf(_) => of != at,
+        Kind::Choice(_) => of != at,
+        _ => false,
+    }
+}
+
+/// Tells whether what stands on the tape from a place on is a value of a type, where its parts alone do not say it.
 fn judge_whole(
     by: By<'_, '_>,
     of: usize,
     at: usize,
+    kind: &Kind,
     start: usize,
     made: &JsonTape,
     trail: &mut Trail,
 ) -> Result<(), Fault>
     requires { is_sound by.types.table.now ≡ true }
 {
-    if of == at && !matches!(by.types.kind(Some(at)), Some(Kind::Set(_, Some(_)))) {
+    if !is_judged_whole(of, at, kind) {
         return Ok(());
     }
-    let mut tape = Vec::new(by.alloc);
-    made.lend_from(start, &mut tape)?;
+    let tape = made.lend_from(by.alloc, start)?;
     judge(by, of, &tape, trail)
 }
 
@@ -292,28 +393,18 @@ pub(super) fn read_value(
     trail: &mut Trail,
 ) -> Result<(), Fault>
     requires { is_sound by.types.table.now ≡ true }
-    ensures { Reads tape_of_value
-        (Denotes (seen by.entry.types) by.entry.depth depth of (value_view value.now))
-        (HasWord by.entry.types.table.now by.entry.depth of) made.old made.new result }
+    ensures { OnOk result (Makes (Denotes (seen by.entry.types) by.entry.depth depth of
+        (value_view value.now)) made.old made.new) }
 {
     if depth == 0 {
         return Err(trail.refused(of, Reason::Json));
     }
     let at = by.types.resolved(Some(of)).unwrap_or(of);
+    let Some(kind) = by.types.kind(Some(at)) else {
+        return Err(trail.refused(of, Reason::MissingType));
+    };
     let start = made.len();
-    match by.types.kind(Some(at)) {
-        None => return Err(trail.refused(of, Reason::MissingType)),
-        Some(Kind::Sequence(_, _)) | Some(Kind::Set(_, _)) => {
-            read_row(by, depth - 1, of, at, value, made, trail)?;
-        }
-        Some(Kind::SequenceOf(inner)) => {
-            read_list(by, depth - 1, of, *inner, false, value, made, trail)?;
-        }
-        Some(Kind::SetOf(inner)) => {
-            read_list(by, depth - 1, of, *inner, true, value, made, trail)?;
-        }
-        Some(Kind::Choice(_)) => read_choice(by, depth - 1, of, at, value, made, trail)?,
-        Some(kind) => return read_leaf(by, of, at, kind, value, made, trail),
-    }
-    judge_whole(by, of, at, start, made, trail)
+    read_kind(by, depth - 1, of, at, kind, value, made, trail)?;
+    judge_whole(by, of, at, kind, start, made, trail)?;
+    Ok(())
 }
