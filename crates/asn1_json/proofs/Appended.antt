@@ -1,15 +1,14 @@
 -- Tapes to which marks are appended.
-use Rattle.std.proofs.Common.{◌≡◌, ◌∙◌, ap, sym, refl, ℕ, suc, ◌+◌, length-append, List, [], ◌∷◌, ◌++◌, map, length, take, drop, append_assoc, append-nil}
+use Rattle.std.proofs.Common.{◌≡◌, ◌∙◌, ap, sym, refl, subst, ℕ, List, [], ◌∷◌, ◌++◌, map, length, take, drop, append_assoc, append-nil}
 use Rattle.std.proofs.Math.Seq.{drop-append_seam, take-append_seam}
-use Rattle.std.proofs.Math.ListN.{set}
-use Rattle.std.proofs.lemmas.List.{map-append, length-map}
+use Rattle.std.proofs.lemmas.List.{map-append}
 use Rattle.asn1_schema.specs.declared.tape.Item.{Item}
 use Rattle.asn1_schema.specs.declared.tape.Item.TheVariants as items
-use Rattle.asn1_schema.specs.Tape.{Mark, mark, begin_mark, end_mark}
+use Rattle.asn1_schema.specs.Tape.{Mark, mark, between, begin_mark, end_mark}
 use Rattle.asn1_schema.specs.Owned.{filled, lent, span}
 use Rattle.asn1_json.specs.Made.{made_marks, made_with, placed_mark}
 use Rattle.asn1_json.specs.declared.reading.made.Placed.{Placed}
-use Rattle.asn1_json.specs.Outcomes.{Appends, Closes}
+use Rattle.asn1_json.specs.Outcomes.{Appends}
 use Rattle.asn1_json.specs.declared.reading.made.JsonTape.{JsonTape}
 
 -- nothing was appended
@@ -82,39 +81,10 @@ made_whole old new ms none a =
     ∙ ap (λ (l : List Mark). l ++ ms)
     (unmarked (placed_mark old.octets.items) (placed_mark (old.octets.items ++ (a.octets ++ []))) old.items.items none)
 
--- one mark in the place of another
-pub mark_set : (f : Placed → Mark) (ps : List Placed) (p : Placed) (front inner : List Mark) (m n : Mark) →
-    map f ps ≡ front ++ m ∷ inner → f p ≡ n → map f (set ps (length front) p) ≡ front ++ n ∷ inner
-mark_set f [] p [] inner m n e g = absurd (cc)
-mark_set f [] p (c ∷ cs) inner m n e g = absurd (cc)
-mark_set f (q ∷ ps) p [] inner m n e g =
-    let t : map f ps ≡ inner = cc in
-    ap (λ (a : Mark). a ∷ map f ps) g ∙ ap (λ (l : List Mark). n ∷ l) t
-mark_set f (q ∷ ps) p (c ∷ cs) inner m n e g =
-    let h : f q ≡ c = cc in
-    let t : map f ps ≡ cs ++ m ∷ inner = cc in
-    ap (λ (a : Mark). a ∷ map f (set ps (length cs) p)) h ∙ ap (λ (l : List Mark). c ∷ l) (mark_set f ps p cs inner m n t g)
-
--- how many marks there are
-pub marks_counted : (f : Placed → Mark) (ps : List Placed) (front inner : List Mark) (m : Mark) → map f ps ≡ front ++ m ∷ inner →
-    length ps ≡ length front + suc (length inner)
-marks_counted f ps front inner m e =
-    sym (length-map ps f) ∙ ap (λ (l : List Mark). length l) e ∙ length-append front (m ∷ inner)
-
--- a row ends: its begin counts its marks, and its end is put behind them
-pub closed : (old mid new : JsonTape) (place count : ℕ) → mid.octets.items ≡ old.octets.items →
-    ((others : List ℕ) (front inner : List Mark) → length front ≡ place → made_with old others ≡ front ++ begin_mark 0 ∷ inner →
-    made_with mid others ≡ front ++ begin_mark count ∷ inner) →
-    new.octets.items ≡ mid.octets.items ++ [] →
-    ((others : List ℕ) → made_with new others ≡ made_with mid others ++ end_mark count ∷ []) →
-    ((n : ℕ) → length old.items.items ≡ place + suc n → count ≡ n) → Closes old new place
-closed old mid new place count same begins behind ends counts = (
-  behind ∙ append-nil mid.octets.items ∙ same,
-  λ others front inner len e.
-      let all : length old.items.items ≡ place + suc (length inner) =
-      marks_counted (placed_mark (old.octets.items ++ others)) old.items.items front inner (begin_mark 0) e
-      ∙ ap (λ (n : ℕ). n + suc (length inner)) len in
-      ends others ∙ ap (λ (l : List Mark). l ++ end_mark count ∷ []) (begins others front inner len e)
-      ∙ append_assoc front (begin_mark count ∷ inner) (end_mark count ∷ [])
-      ∙ ap (λ (n : ℕ). front ++ begin_mark n ∷ (inner ++ end_mark n ∷ [])) (counts (length inner) all),
-)
+-- a row is put: its begin, its marks, and its end
+pub row_put : (old begun mid new : JsonTape) (ms : List Mark) (n : ℕ) → n ≡ length ms → Appends old begun (begin_mark n ∷ []) →
+    Appends begun mid ms → Appends mid new (end_mark n ∷ []) →
+    Appends old new (between (begin_mark (length ms)) ms (end_mark (length ms)))
+row_put old begun mid new ms n is a b c =
+    subst (λ (m : ℕ). Appends old new (between (begin_mark m) ms (end_mark m))) is
+    (appends_both old mid new (begin_mark n ∷ ms) (end_mark n ∷ []) (appends_both old begun mid (begin_mark n ∷ []) ms a b) c)

@@ -1,6 +1,6 @@
 -- Values without parts that are put on a tape.
 use Rattle.std.proofs.Common.{◌≡◌, ◌∙◌, ap, sym, refl, subst, ℕ, List, [], ◌∷◌, Result, Ok, Err}
-use Rattle.std.specs.Prelude.{OnOk}
+use Rattle.std.specs.Prelude.{OnOk, Option, MatchOption}
 use Rattle.json.specs.Json.{Json}
 use Rattle.asn1_schema.specs.declared.schema.Kind.{Kind}
 use Rattle.asn1_schema.specs.declared.schema.Kind.TheVariants as kinds
@@ -48,3 +48,6 @@ simple_is_kind types depth Sub at (kinds.SetOf t) j v d = absurd d.2
 simple_is_kind types depth Sub at (kinds.Choice arms) j v d = absurd d.2
 simple_is_kind types depth Sub at (kinds.Explicit t) j v d = absurd d.2
 simple_is_kind types depth Sub at (kinds.Within t lower upper) j v d = absurd d.2
+
+pub some_of : {X : Type 0} (P : X → Type 0) (o : Option X) (x : X) → o ≡ Some x → MatchOption o (Unit {0}) P → P x
+some_of P o x e m = subst (λ f. MatchOption f (Unit {0}) P) e m

@@ -7,6 +7,7 @@ use Rattle.json.specs.Json.{Json}
 use Rattle.json.specs.Find.{get_member, later_or}
 use Rattle.json.specs.Value.{members_of, members_view, value_view}
 use Rattle.json.specs.declared.value.Value.{Value}
+use Rattle.asn1_json.specs.DenotedLeaves.{count_members}
 use Rattle.asn1_json.specs.Denotes.{arm_from}
 use Rattle.asn1_json.specs.Tokens.{Types, name_of_arm}
 
@@ -63,3 +64,8 @@ module _ (types : Types) (choice : ℕ) (key : List ℕ) (arms : List ℕ) (i : 
       ap (arm_from types choice key (drop (i + 1) arms)) next
       ∙ sym (ap (λ (l : List ℕ). arm_from types choice key l i) (drop_more arms i 0 lt)
       ∙ ap (λ (b : Bool). if b then Some i else arm_from types choice key (drop (i + 1) arms) (suc i)) e)
+
+-- how many members there are
+pub members_counted : {A : Type 0} (ms : List (Bor (List ℕ) × Value A)) → count_members (members_view ms) ≡ length ms
+members_counted [] = refl
+members_counted (m ∷ ms) = ap suc (members_counted ms)

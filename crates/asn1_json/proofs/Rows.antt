@@ -1,6 +1,6 @@
 -- Rows that are made part by part.
 use Rattle.std.proofs.Common.{◌≡◌, ◌∙◌, ap, sym, refl, subst, ℕ, suc, ◌+◌, ◌≤◌, List, [], ◌∷◌, ◌++◌, append_assoc, append-nil, length, drop, Option, Some, None, codes, arith}
-use Rattle.std.proofs.lemmas.List.{drop_all, length-map}
+use Rattle.std.proofs.lemmas.List.{drop_all}
 use Rattle.json.specs.Json.{Json, Members}
 use Rattle.json.specs.Find.{get_member}
 use Rattle.json.specs.Value.{items_of}
@@ -11,14 +11,14 @@ use Rattle.asn1_schema.specs.declared.schema.Presence.TheVariants as presences
 use Rattle.asn1_schema.specs.Grammar.{Body, LeftOut}
 use Rattle.asn1_schema.specs.Rules.{der}
 use Rattle.asn1_schema.specs.Tape.{Mark, Kept, KeptRow, kept_leaf, kept_row, kept_chosen, kept_none, kept_absent, kept_more, value_of, values_of, tape_of, tapes_of}
-use Rattle.asn1_schema.specs.Tape.{leaf_mark, absent_mark, begin_mark, end_mark, arm_mark, arm_end_mark}
+use Rattle.asn1_schema.specs.Tape.{leaf_mark, absent_mark, begin_mark, end_mark, arm_mark, arm_end_mark, between}
 use Rattle.asn1_schema.specs.Values.{Leaf, Value, Values, leaf, row, chosen, none, absent, more}
 use Rattle.asn1_json.specs.declared.reading.made.JsonTape.{JsonTape}
 use Rattle.asn1_json.specs.Tokens.{Types, name_of_field}
-use Rattle.asn1_json.specs.Made.{made_marks, made_with, placed_mark}
+use Rattle.asn1_json.specs.Made.{made_marks}
 use Rattle.asn1_json.specs.Denotes.{DenoteFields, DenoteItems, DenoteUnknown, DenotesComponent}
-use Rattle.asn1_json.specs.Outcomes.{Appends, Closes, DenoteFirst, DenotesOnce, Makes, MakesRow, and_then}
-use Rattle.asn1_json.proofs.Appended.{appends_nothing, appends_both}
+use Rattle.asn1_json.specs.Outcomes.{Appends, DenoteFirst, DenotesOnce, Makes, MakesRow, and_then}
+use Rattle.asn1_json.proofs.Appended.{appends_nothing, appends_both, made_whole}
 
 -- rows, one behind the other
 behind : KeptRow → KeptRow → KeptRow
@@ -95,24 +95,16 @@ item_made Sub js j old mid new a b =
     (row_of_one (Sub j) (λ ws. (v : Value) × (ws ≡ more v none) × Sub j v) mid new b (λ v s. (v, refl, s)))
     (λ vs ws d e. subst (λ (z : Values). DenoteItems Sub (items_of (js ++ j ∷ [])) (and_then vs z)) (sym e.1) (items_more Sub js j vs e.0 d e.2))
 
--- a row ends
-pub row_closed : (D : Values → Type 0) (E : Value → Type 0) (old begun mid new : JsonTape) (place : ℕ) →
-    place ≡ length (made_marks old) → Appends old begun (begin_mark 0 ∷ []) → MakesRow D begun mid → Closes mid new place →
+-- a row is put, whose values are on a tape of their own
+pub row_made : (D : Values → Type 0) (E : Value → Type 0) (fresh inner old new : JsonTape) → made_marks fresh ≡ [] →
+    MakesRow D fresh inner →
+    ((ms : List Mark) → made_marks inner ≡ ms → Appends old new (between (begin_mark (length ms)) ms (end_mark (length ms)))) →
     ((vs : Values) → D vs → E (row vs)) → Makes E old new
-row_closed D E old begun mid new place at b m c e =
-    let ms : List Mark = tapes_of m.kept in
-    let all : Appends old mid (begin_mark 0 ∷ ms) = appends_both old begun mid (begin_mark 0 ∷ []) ms b m.put in
-    record {
-      kept = kept_row m.kept;
-      denotes = e (values_of m.kept) m.denotes;
-      put = record {
-        octets = all.octets;
-        behind = c.0 ∙ all.behind;
-        marks = λ others. c.1 others (made_with old (all.octets ++ others)) ms
-            (length-map old.items.items (placed_mark (old.octets.items ++ (all.octets ++ others)))
-            ∙ sym (length-map old.items.items (placed_mark old.octets.items)) ∙ sym at) (all.marks others);
-      };
-    }
+row_made D E fresh inner old new none m put e = record {
+  kept = kept_row m.kept;
+  denotes = e (values_of m.kept) m.denotes;
+  put = put (tapes_of m.kept) (made_whole fresh inner (tapes_of m.kept) none m.put);
+}
 
 -- a value of an arm ends
 pub arm_made : (D E : Value → Type 0) (arm : ℕ) (old begun mid new : JsonTape) → Appends old begun (arm_mark arm ∷ []) →

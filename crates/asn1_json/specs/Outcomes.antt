@@ -1,5 +1,5 @@
 -- What comes of JSON that is read.
-use Rattle.std.specs.Prelude.{ℕ, ◌≡◌, ◌<◌, List, [], ◌∷◌, ◌++◌, length, drop, Option, Result, MatchResult, All}
+use Rattle.std.specs.Prelude.{ℕ, ◌≡◌, ◌<◌, List, [], ◌∷◌, ◌++◌, drop, Option, Result, MatchResult, All}
 use Rattle.x690.specs.Identifiers.{Identifier}
 use Rattle.x690.specs.Strict.{element_octets}
 use Rattle.json.specs.Json.{Json, array, Items, Members}
@@ -11,7 +11,7 @@ use Rattle.asn1_schema.specs.declared.names.PartName.{PartName}
 use Rattle.asn1_schema.specs.declared.tape.Item.{Item}
 use Rattle.asn1_schema.specs.Grammar.{Body, LeftOut, Word}
 use Rattle.asn1_schema.specs.Rules.{der, strict}
-use Rattle.asn1_schema.specs.Tape.{Mark, Kept, KeptRow, mark, leaf_mark, begin_mark, end_mark, tape_of, tapes_of, value_of, values_of}
+use Rattle.asn1_schema.specs.Tape.{Mark, Kept, KeptRow, mark, leaf_mark, tape_of, tapes_of, value_of, values_of}
 use Rattle.asn1_schema.specs.Values.{Leaf, Value, Values, leaf, row, any, none, absent, more}
 use Rattle.asn1_json.specs.DenotedLeaves.{DenotesLeaf}
 use Rattle.asn1_json.specs.Denotes.{DenoteFields, DenoteItems, DenoteSet, DenotesComponent}
@@ -40,12 +40,6 @@ pub record Appends (old new : JsonTape) (ms : List Mark) : Type 0 where
   pub octets : List ℕ
   pub behind : new.octets.items ≡ old.octets.items ++ octets
   pub marks : (others : List ℕ) → made_with new others ≡ made_with old (octets ++ others) ++ ms
-
--- The last row that was begun, in front of which are so many marks, has ended.
-abbrev pub Closes : JsonTape → JsonTape → ℕ → Type 0
-Closes old new place = (new.octets.items ≡ old.octets.items) × ((others : List ℕ) (front inner : List Mark) →
-    length front ≡ place → made_with old others ≡ front ++ begin_mark 0 ∷ inner →
-    made_with new others ≡ front ++ begin_mark (length inner) ∷ (inner ++ end_mark (length inner) ∷ []))
 
 -- No value has both.
 abbrev pub HaveNone : {V : Type 0} → (V → Type 0) → (V → Type 0) → Type 0

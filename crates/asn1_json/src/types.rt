@@ -9,7 +9,7 @@ ghost use Rattle.asn1_json.specs.Types.{is_any};
 ghost use Rattle.asn1_json.specs.Tokens.{seen, type_of_arm, type_of_field};
 ghost use Rattle.asn1_json.specs.Tokens.{count_of_fields, type_of_unknown, type_of_members};
 
-use asn1_schema::names::{PartName, TypeNames, place_of};
+use asn1_schema::names::{PartName, TypeNames};
 use asn1_schema::schema::{Field, Kind, Node};
 
 /// A table, and the names beside it.
@@ -80,6 +80,18 @@ fn name_of<'l>(labels: &'l [PartName<'_>], number: Option<i128>) -> &'l str
     ""
 }
 
+/// The number that the first part with a name stands for.
+fn number_named(labels: &[PartName<'_>], name: &str) -> Option<i128>
+    ensures { result ≡ number_named labels.now name.now }
+{
+    for label in labels {
+        if label.name == name {
+            return Some(label.number);
+        }
+    }
+    None
+}
+
 impl<'s, 'n> Types<'s, 'n> {
     /// The kind of the type at a place, if one is given.
     pub fn kind(self, at: Option<usize>) -> Option<&'s Kind>
@@ -118,9 +130,10 @@ impl<'s, 'n> Types<'s, 'n> {
     pub(crate) fn number(self, at: usize, name: &str) -> Option<i128>
         ensures { result ≡ number_named (labels_at self.entry.names.now (Some at)) name.now }
     {
-        let labels = self.names.get(at)?.labels.as_slice();
-        let place = place_of(labels, name)?;
-        Some(labels[place].number)
+        match self.names.get(at) {
+            Some(names) => number_named(names.labels.as_slice(), name),
+            None => None,
+        }
     }
 
     /// The type of the members of a list; none where it is no list.

@@ -84,7 +84,9 @@ fn written(
 {
     tapes_begin_with_one_value();
     let tape = made.lend(alloc)?;
-    match encode_der_vec(alloc, &schema.nodes, of, MOST_DEPTH, &tape) {
+    let nodes = schema.nodes.as_slice();
+    let items = tape.as_slice();
+    match encode_der_vec(alloc, nodes, of, MOST_DEPTH, items) {
         Ok(octets) => Ok(Encoded::Value(octets)),
         Err(EncodeError::OutOfMemory) => Err(RunError::OutOfMemory),
         Err(EncodeError::Refused) => {

@@ -1,12 +1,11 @@
 //! The members of a set-of, in the order of their encodings (X.690 11.6).
-ghost use Rattle.std.specs.Prelude.{◌≡◌, true, OnOk, map};
+ghost use Rattle.std.specs.Prelude.{ℕ, ◌≡◌, true, OnOk, map};
 ghost use Rattle.std.specs.List.Sorted.{IsPermutation};
-ghost use Rattle.json.specs.Json.{Json};
 ghost use Rattle.json.specs.Value.{items_of};
 ghost use Rattle.asn1_schema.specs.Sound.{is_sound};
-ghost use Rattle.asn1_schema.specs.Values.{Value as SpecValue};
-ghost use Rattle.asn1_json.specs.Denotes.{DenoteItems};
+ghost use Rattle.asn1_json.specs.Denotes.{Denotes, DenoteItems};
 ghost use Rattle.asn1_json.specs.Outcomes.{AreMembers, MakesRow, document_of};
+ghost use Rattle.asn1_json.specs.Tokens.{Types as SpecTypes};
 
 use crate::reading::leaf::By;
 use crate::reading::made::JsonTape;
@@ -58,8 +57,10 @@ pub(super) fn put_members(
     members: &[Member<'_, '_>],
     made: &mut JsonTape,
 ) -> Result<(), AllocError>
-    ensures { (Sub : Json → SpecValue → Type 0) → AreMembers Sub members.now →
-        OnOk result (MakesRow (DenoteItems Sub (items_of (map document_of members.now))) made.old made.new) }
+    ensures { (types : SpecTypes) (depth nesting of : ℕ) →
+        AreMembers (Denotes types depth nesting of) members.now → OnOk result (MakesRow
+        (DenoteItems (Denotes types depth nesting of) (items_of (map document_of members.now)))
+        made.old made.new) }
 {
     for member in members {
         let tape = member.made.lend(alloc)?;

@@ -3,6 +3,7 @@ ghost use Rattle.std.specs.Prelude.{◌≡◌, true, IfOk, encode_utf8_all, Matc
 ghost use Rattle.std.specs.Str.{chars};
 ghost use Rattle.x690.specs.Characters.{code_of};
 ghost use Rattle.x690.specs.Octets.{IsOctets};
+ghost use Rattle.asn1_schema.specs.declared.schema.TextKind.TheVariants as texts;
 ghost use Rattle.asn1_json.specs.DenotedLeaves.{DenotesText};
 
 use crate::texts::octet_text;
@@ -66,6 +67,24 @@ pub(super) fn character_octets(alloc: Global, text: &str) -> Result<Option<Vec<u
     }
 }
 
+/// The octets of a text in UTF-16.
+fn bmp_octets(alloc: Global, text: &str) -> Result<Option<Vec<u8>>, AllocError>
+    ensures { IfOk result (λ found. MatchOption found (Unit {0})
+        (λ octets. DenotesText texts.Bmp text.now octets.items)) }
+{
+    let octets = coded::<Utf16>(alloc, text)?;
+    Ok(Some(octets))
+}
+
+/// The octets of a text in UCS-4.
+fn universal_octets(alloc: Global, text: &str) -> Result<Option<Vec<u8>>, AllocError>
+    ensures { IfOk result (λ found. MatchOption found (Unit {0})
+        (λ octets. DenotesText texts.Universal text.now octets.items)) }
+{
+    let octets = coded::<Ucs4>(alloc, text)?;
+    Ok(Some(octets))
+}
+
 /// The octets of a text in the code of a type of character strings. None are answered where a character has none.
 pub(super) fn text_octets(
     alloc: Global,
@@ -80,14 +99,8 @@ pub(super) fn text_octets(
             let octets = Vec::from_slice(alloc, text.as_bytes())?;
             Ok(Some(octets))
         }
-        TextKind::Bmp => {
-            let octets = coded::<Utf16>(alloc, text)?;
-            Ok(Some(octets))
-        }
-        TextKind::Universal => {
-            let octets = coded::<Ucs4>(alloc, text)?;
-            Ok(Some(octets))
-        }
+        TextKind::Bmp => bmp_octets(alloc, text),
+        TextKind::Universal => universal_octets(alloc, text),
         _ => character_octets(alloc, text),
     }
 }

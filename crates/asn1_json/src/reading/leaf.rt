@@ -1,5 +1,6 @@
 //! Values without parts, from JSON.
 ghost use Rattle.std.specs.Prelude.{ℤ, Bool, [], ◌≡◌, ◌<◌, ◌++◌, true, Some, IfOk, IfSome, MatchResult, OnOk, length};
+ghost use Rattle.x690.specs.Digits.{twos_complement_value};
 ghost use Rattle.x690.specs.Strict.{header_octets};
 ghost use Rattle.std.specs.declared.vec.Vec.{Vec};
 ghost use Rattle.std.specs.declared.alloc.Global.{Global};
@@ -30,7 +31,7 @@ use asn1_schema::schema::{Kind, TextKind, TimeKind};
 use asn1_schema::tape::Item;
 use json::Value;
 use std::alloc::{AllocError, Global};
-use x690::signed::signed_into;
+use x690::signed::{signed_into, signed_number};
 
 /// What JSON is read by.
 #[derive(Debug, Clone, Copy)]
@@ -142,6 +143,16 @@ fn read_integer(
     }
 }
 
+/// Whether contents octets say a number.
+fn says(octets: &[u8], number: i128) -> bool
+    ensures { result ≡ true → number ≡ twos_complement_value octets.now }
+{
+    match signed_number(octets, 16) {
+        Some(said) => said == number,
+        None => false,
+    }
+}
+
 /// A listed number by its name.
 fn read_name(
     by: By<'_, '_>,
@@ -162,6 +173,9 @@ fn read_name(
     let mut content = [0; 17];
     let start = signed_into(number, &mut content);
     let octets = &content[start..];
+    if !says(octets, number) {
+        return Err(trail.refused(of, Reason::Listed));
+    }
     put(by, of, Item::Enumerated(octets), made, trail)
 }
 

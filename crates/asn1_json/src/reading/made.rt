@@ -1,9 +1,9 @@
 //! Tapes that are made item by item, and own their octets.
 ghost use Rattle.std.specs.Prelude.{ℕ, List, [], ◌∷◌, ◌++◌, ◌≡◌, ◌↔◌, OnOk, IfOk, IsTrue, length, drop};
-ghost use Rattle.asn1_schema.specs.Tape.{Mark, begin_mark, mark, marks};
+ghost use Rattle.asn1_schema.specs.Tape.{Mark, begin_mark, between, end_mark, mark, marks};
 ghost use Rattle.asn1_schema.specs.Owned.{lent, filled, span};
 ghost use Rattle.asn1_json.specs.Made.{made_marks, made_with};
-ghost use Rattle.asn1_json.specs.Outcomes.{Appends, Closes};
+ghost use Rattle.asn1_json.specs.Outcomes.{Appends};
 
 use asn1_schema::tape::Item;
 use std::alloc::{AllocError, Global};
@@ -146,39 +146,17 @@ impl JsonTape {
         Ok(())
     }
 
-    /// A row begins. Its place is answered, which `close` is told.
-    pub(super) fn open(&mut self) -> Result<usize, AllocError>
-        ensures place { IfOk result (λ place. place ≡ length (made_marks self.old)) }
-        ensures begins { OnOk result (Appends self.old self.new (begin_mark 0 ∷ [])) }
+    /// Puts a row behind the others, whose items are those of another tape.
+    pub(super) fn put_row(&mut self, alloc: Global, inner: &JsonTape) -> Result<(), AllocError>
+        ensures { (ms : List Mark) → made_marks inner.now ≡ ms → OnOk result
+            (Appends self.old self.new (between (begin_mark (length ms)) ms (end_mark (length ms)))) }
     {
-        let place = self.items.len();
-        self.push(&Item::Begin(0))?;
-        Ok(place)
-    }
-
-    /// The row that begins at a place has so many items.
-    fn set_count(&mut self, place: usize, count: usize)
-        ensures octets { self.new.octets.items ≡ self.old.octets.items }
-        ensures begins { (others : List ℕ) (front inner : List Mark) → length front ≡ place →
-            made_with self.old others ≡ front ++ begin_mark 0 ∷ inner →
-            made_with self.new others ≡ front ++ begin_mark count ∷ inner }
-    {
-        if place < self.items.len() {
-            self.items[place] = Placed {
-                shape: Item::Begin(count),
-                start: 0,
-                len: 0,
-            };
-        }
-    }
-
-    /// The row that began at a place ends.
-    pub(super) fn close(&mut self, place: usize) -> Result<(), AllocError>
-        ensures { OnOk result (Closes self.old self.new place) }
-    {
-        let count = self.items.len().saturating_sub(place).saturating_sub(1);
-        self.set_count(place, count);
-        self.put(&Item::End(count))
+        let tape = inner.lend(alloc)?;
+        let count = tape.len();
+        self.push(&Item::Begin(count))?;
+        self.append(&tape)?;
+        self.push(&Item::End(count))?;
+        Ok(())
     }
 
     /// The items from a place on. Their octets are lent from here.

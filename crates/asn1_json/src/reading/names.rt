@@ -1,6 +1,7 @@
 //! The members of objects, by the names of parts.
 ghost use Rattle.std.specs.Prelude.{◌≡◌, None, Some, IfOk, IfSome, MatchOption, OnOk, true, string_bytes};
 ghost use Rattle.json.specs.Find.{get_member};
+ghost use Rattle.json.specs.Json.{member, no_members};
 ghost use Rattle.json.specs.Value.{members_view, value_view};
 ghost use Rattle.asn1_json.specs.Denotes.{AreNamed, IsNameOfField, IsNameOfPart, arm_from};
 ghost use Rattle.asn1_json.specs.Tokens.{name_of_arm, name_of_field, seen, type_of_unknown};
@@ -22,12 +23,25 @@ pub(super) fn member_named<'m, 'a>(
         (λ found. get_member name.now (members_view members.now) ≡ Some (value_view found.1.now)) }
 {
     let mut found = None;
-    for (place, member) in members.iter().enumerate() {
-        if member.0 == name {
-            found = Some((place, &member.1));
+    for (place, part) in members.iter().enumerate() {
+        if part.0 == name {
+            found = Some((place, &part.1));
         }
     }
     found
+}
+
+/// The one member of an object, by its name.
+pub(super) fn only_member<'m, 'a>(
+    members: &'m [(&'a str, Value<'a>)],
+) -> Option<(&'a str, &'m Value<'a>)>
+    ensures { IfSome result (λ one.
+        members_view members.now ≡ member one.0.now (value_view one.1.now) no_members) }
+{
+    match members {
+        [one] => Some((one.0, &one.1)),
+        _ => None,
+    }
 }
 
 /// The name of a part, or its number where it has none.
@@ -90,6 +104,23 @@ pub(super) fn arm_named(
     Ok(None)
 }
 
+/// The last member that has the name of a field, and its place.
+pub(super) fn member_of_field<'m, 'a>(
+    alloc: Global,
+    types: Types<'_, '_>,
+    row: usize,
+    place: usize,
+    members: &'m [(&'a str, Value<'a>)],
+) -> Result<Option<(usize, &'m Value<'a>)>, AllocError>
+    ensures { IfOk result (λ found. MatchOption found
+        (get_member (name_of_field (seen types.entry) (Some row) place) (members_view members.now) ≡ None)
+        (λ found. get_member (name_of_field (seen types.entry) (Some row) place)
+        (members_view members.now) ≡ Some (value_view found.1.now))) }
+{
+    let name = field_name(alloc, types, row, place)?;
+    Ok(member_named(members, name.as_str()))
+}
+
 /// Whether a field of a row has a name.
 fn has_field_named(
     alloc: Global,
@@ -139,9 +170,9 @@ pub(super) fn judge_names<'a>(
         (type_of_unknown (seen types.entry) (Some row)) (members_view members.now)) }
 {
     let mut rest = members;
-    while let [member, others @ ..] = rest {
-        let place = members.len() - rest.len();
-        let name = member.0;
+    while let [part, others @ ..] = rest {
+        let place = members.len().saturating_sub(rest.len());
+        let name = part.0;
         if !is_name_of_part(alloc, types, row, name)? {
             return Err(trail.refused_at(Step::Name(place), row, Reason::UnknownName));
         }

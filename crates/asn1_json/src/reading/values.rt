@@ -14,7 +14,7 @@ ghost use Rattle.asn1_json.specs.Types.{arms_of, fields_of, kind_at};
 use crate::reading::arranged::{Member, arrange, encoded, put_members};
 use crate::reading::leaf::{By, judge, read_leaf};
 use crate::reading::made::JsonTape;
-use crate::reading::names::{arm_named, field_name, judge_names, member_named};
+use crate::reading::names::{arm_named, judge_names, member_named, member_of_field, only_member};
 use crate::reading::trail::{Fault, Reason, Step, Trail};
 use asn1_schema::decode::{DecodeError, decode_der_whole};
 use asn1_schema::refusal::Refusal;
@@ -94,8 +94,7 @@ fn read_field<'a>(
         (get_member (name_of_field (seen by.entry.types) (Some row) place) (members_view members.now)))
         made.old made.new) }
 {
-    let name = field_name(by.alloc, by.types, row, place)?;
-    match member_named(members, name.as_str()) {
+    match member_of_field(by.alloc, by.types, row, place, members)? {
         None => leave_out(by, row, place, field, made, trail),
         Some((member, value)) => {
             trail.enter(Step::Member(member))?;
@@ -122,7 +121,8 @@ fn read_fields<'a>(
         (members_view members.now) (fields_of (kind_at by.entry.types.table.now (Some row)))
         (length (fields_of (kind_at by.entry.types.table.now (Some row))))) made.old made.new) }
 {
-    for (place, field) in by.types.fields(Some(row)).iter().enumerate() {
+    let fields = by.types.fields(Some(row));
+    for (place, field) in fields.iter().enumerate() {
         read_field(by, depth, row, place, field, members, made, trail)?;
     }
     Ok(())
@@ -146,6 +146,7 @@ fn read_array(
     let Value::Array(items) = value else {
         return Err(trail.refused(of, Reason::Array));
     };
+    let items = items.as_slice();
     for (place, item) in items.iter().enumerate() {
         trail.enter(Step::Item(place))?;
         read_value(by, depth, inner, item, made, trail)?;
@@ -201,11 +202,12 @@ fn read_row(
     let Value::Object(members) = value else {
         return Err(trail.refused(of, Reason::Object));
     };
+    let members = members.as_slice();
     judge_names(by.alloc, by.types, row, members, trail)?;
-    let begin = made.open()?;
-    read_fields(by, depth, row, members, made, trail)?;
-    read_unknown(by, depth, row, members, made, trail)?;
-    made.close(begin)?;
+    let mut inner = JsonTape::new(by.alloc);
+    read_fields(by, depth, row, members, &mut inner, trail)?;
+    read_unknown(by, depth, row, members, &mut inner, trail)?;
+    made.put_row(by.alloc, &inner)?;
     Ok(())
 }
 
@@ -224,9 +226,9 @@ fn read_list(
     ensures { OnOk result (Makes (DenotesList (Denotes (seen by.entry.types) by.entry.depth depth inner)
         (value_view value.now)) made.old made.new) }
 {
-    let begin = made.open()?;
-    read_array(by, depth, of, inner, value, made, trail)?;
-    made.close(begin)?;
+    let mut items = JsonTape::new(by.alloc);
+    read_array(by, depth, of, inner, value, &mut items, trail)?;
+    made.put_row(by.alloc, &items)?;
     Ok(())
 }
 
@@ -274,11 +276,12 @@ fn read_set(
     let Value::Array(items) = value else {
         return Err(trail.refused(of, Reason::Array));
     };
+    let items = items.as_slice();
     let mut members = read_members(by, depth, inner, items, trail)?;
     arrange(&mut members)?;
-    let begin = made.open()?;
-    put_members(by.alloc, &members, made)?;
-    made.close(begin)?;
+    let mut arranged = JsonTape::new(by.alloc);
+    put_members(by.alloc, members.as_slice(), &mut arranged)?;
+    made.put_row(by.alloc, &arranged)?;
     Ok(())
 }
 
@@ -302,7 +305,7 @@ fn read_choice(
     let Value::Object(members) = value else {
         return Err(trail.refused(of, Reason::OneMember));
     };
-    let [(name, inner)] = members.as_slice() else {
+    let Some((name, inner)) = only_member(members.as_slice()) else {
         return Err(trail.refused(of, Reason::OneMember));
     };
     let Some(arm) = arm_named(by.alloc, by.types, choice, name)? else {
@@ -399,7 +402,9 @@ pub(super) fn read_value(
     if depth == 0 {
         return Err(trail.refused(of, Reason::Json));
     }
-    let at = by.types.resolved(Some(of)).unwrap_or(of);
+    let Some(at) = by.types.resolved(Some(of)) else {
+        return Err(trail.refused(of, Reason::MissingType));
+    };
     let Some(kind) = by.types.kind(Some(at)) else {
         return Err(trail.refused(of, Reason::MissingType));
     };

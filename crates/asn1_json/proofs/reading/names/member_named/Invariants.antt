@@ -4,6 +4,6 @@ use Rattle.json.specs.Value.{members_view, value_view}
 use Rattle.asn1_json.proofs.reading.names.member_named.Given as goal
 
 -- the last one so far
-abbrev pub invariant-loop-member : goal.invariant-loop-member
-invariant-loop-member l = MatchOption l.found (get_member l.name (members_view (take l.member-index l.members)) ≡ None)
-    (λ found. get_member l.name (members_view (take l.member-index l.members)) ≡ Some (value_view found.1.now))
+abbrev pub invariant-loop-place : goal.invariant-loop-place
+invariant-loop-place l = MatchOption l.found (get_member l.name (members_view (take l.place l.members)) ≡ None)
+    (λ found. get_member l.name (members_view (take l.place l.members)) ≡ Some (value_view found.1.now))

@@ -40,18 +40,18 @@ abbrev pub decreases-read_kind : goal.decreases-read_kind
 decreases-read_kind a = 8 * a.depth + 4
 
 -- the fields so far are made
-abbrev pub invariant-read_fields-loop-field : goal.invariant-read_fields-loop-field
-invariant-read_fields-loop-field l = (unknown : Option ℕ) → MakesRow (DenoteFirst (seen l.by.types) l.by.depth
+abbrev pub invariant-read_fields-loop-place : goal.invariant-read_fields-loop-place
+invariant-read_fields-loop-place l = (unknown : Option ℕ) → MakesRow (DenoteFirst (seen l.by.types) l.by.depth
     (Denotes (seen l.by.types) l.by.depth l.depth) l.row unknown (members_view l.members)
-    (fields_of (kind_at l.by.types.table.now (Some l.row))) l.field-index) l.fn.made l.made
+    (fields_of (kind_at l.by.types.table.now (Some l.row))) l.place) l.fn.made l.made
 
 -- the items so far are made
-abbrev pub invariant-read_array-loop-item : goal.invariant-read_array-loop-item
-invariant-read_array-loop-item l = MakesRow (DenoteItems (Denotes (seen l.by.types) l.by.depth l.depth l.inner)
-    (items_of (map value_view (take l.item-index l.items.items)))) l.fn.made l.made
+abbrev pub invariant-read_array-loop-place : goal.invariant-read_array-loop-place
+invariant-read_array-loop-place l = MakesRow (DenoteItems (Denotes (seen l.by.types) l.by.depth l.depth l.inner)
+    (items_of (map value_view (take l.place l.items)))) l.fn.made l.made
 
 -- the members so far are made
-abbrev pub invariant-read_members-loop-item : goal.invariant-read_members-loop-item
-invariant-read_members-loop-item l =
-    (map document_of l.members.items ≡ map value_view (take l.item-index l.items)) ×
+abbrev pub invariant-read_members-loop-place : goal.invariant-read_members-loop-place
+invariant-read_members-loop-place l =
+    (map document_of l.members.items ≡ map value_view (take l.place l.items)) ×
     AreMembers (Denotes (seen l.by.types) l.by.depth l.depth l.of) l.members.items

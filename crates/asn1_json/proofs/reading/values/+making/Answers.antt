@@ -1,0 +1,172 @@
+use Rattle.std.proofs.Common.{◌≡◌, ◌∙◌, ap, sym, refl, subst, ℕ, suc, ◌+◌, ◌-◌, ◌<◌, ◌≤◌, List, [], ◌∷◌, ◌++◌, length, map, take, drop, Option, Some, None, codes, arith}
+use Rattle.std.specs.Prelude.{OnOk}
+use Rattle.std.proofs.lemmas.List.{drop_more, take_more, take_all, map-append}
+use Rattle.json.specs.Json.{Json, object, array, member, no_members}
+use Rattle.json.specs.Find.{get_member}
+use Rattle.json.specs.Value.{items_of, members_view, value_view}
+use Rattle.asn1_schema.specs.declared.schema.Kind.{Kind}
+use Rattle.asn1_schema.specs.Values.{Value, Values, row, chosen, none, more}
+use Rattle.asn1_json.specs.Denotes.{Denotes, DenoteFields, DenoteItems, DenotesChosen, DenotesKind, DenotesRow, DenoteUnknown}
+use Rattle.asn1_json.specs.Outcomes.{AreMembers, IsMember, DenoteFirst, DenotesItems, DenotesList, DenotesOnce, DenotesSet, LeftOutOnce, Makes, MakesRow, document_of}
+use Rattle.asn1_json.specs.Tokens.{Types, name_of_field, seen, type_of_unknown}
+use Rattle.asn1_json.specs.Types.{arms_of, fields_of, kind_at, labels_at, resolved}
+use Rattle.asn1_json.proofs.Rows.{row_made, arm_made, row_of_one, row_of_none, item_made, fields_begun, field_made, fields_made, makes_as, row_as}
+use Rattle.asn1_json.proofs.MadeLeaves.{simple_is_kind}
+use Rattle.std.proofs.lemmas.List.Sorted.{All-permutation}
+use Rattle.asn1_json.proofs.Kinds.{on_ok, no_item, next_item, all_items, member_made, members_in_order, sequence_is, choice_is, denotes_by}
+use Rattle.asn1_json.proofs.reading.values.+making.Goals as goal
+
+pub read_list-returns : goal.read_list-returns
+read_list-returns t c =
+    let Sub = Denotes (seen c.args.by.types) c.args.by.depth c.args.depth c.args.inner in
+    row_made (DenotesItems Sub (value_view c.args.value.now)) (DenotesList Sub (value_view c.args.value.now))
+    c.new-items.result c.read_array.new.made c.args.made.now c.put_row.new.self c.new-items.ensures c.in_ok-read_array.ensures c.in_ok-put_row.ensures
+    (λ vs d. (d.0, vs, d.1, refl, d.2))
+
+pub read_row-returns : goal.read_row-returns
+read_row-returns t c =
+    let types = seen c.args.by.types in
+    let depth = c.args.by.depth in
+    let Sub = Denotes types depth c.args.depth in
+    let fs = fields_of (kind_at c.args.by.types.table.now (Some c.args.row)) in
+    let unknown = type_of_unknown types (Some c.args.row) in
+    let ms = members_view c.as_slice-members.result.now in
+    row_made (DenoteFields types depth Sub c.args.row unknown ms fs 0)
+    (DenotesRow types depth Sub c.args.row fs unknown (value_view c.args.value.now))
+    c.new-inner.result c.read_unknown.new.made c.args.made.now c.put_row.new.self c.new-inner.ensures
+    (fields_made types depth Sub c.args.row unknown ms fs c.new-inner.result c.read_fields.new.made c.read_unknown.new.made
+    (c.in_ok-read_fields.ensures unknown) c.in_ok-read_unknown.ensures)
+    c.in_ok-put_row.ensures
+    (λ vs d. (ms, vs, ap value_view c.in-Object.is ∙ ap (λ l. object (members_view l)) (sym c.as_slice-members.ensures.value), refl,
+    c.in_ok-judge_names.ensures, d))
+
+pub read_choice-returns : goal.read_choice-returns
+read_choice-returns t c =
+    let types = seen c.args.by.types in
+    let Sub = Denotes types c.args.by.depth c.args.depth in
+    let j = value_view c.args.value.now in
+    let arm = c.in-Some-arm.arm in
+    let of = c.in-Some-of_arm.of_arm in
+    arm_made (Sub of (value_view c.in-Some.inner.now))
+    (DenotesChosen types Sub c.args.choice (arms_of (kind_at c.args.by.types.table.now (Some c.args.choice))) j)
+    arm c.args.made.now c.push.new.self c.read_value.new.made c.push-2.new.self
+    c.in_ok-push.ensures c.in_ok-read_value.ensures c.in_ok-push-2.ensures
+    (λ v d. (c.in-Some.name.now, value_view c.in-Some.inner.now, arm, of, v,
+    ap value_view c.in-Object.is ∙ ap (λ l. object (members_view l)) (sym c.as_slice.ensures.value) ∙ ap object c.in-Some.ensures,
+    refl, ?named, ?of, d))
+
+pub read_fields-loop-place-init : goal.read_fields-loop-place-init
+read_fields-loop-place-init t c = λ unknown.
+    let types = seen c.args.by.types in
+    fields_begun types c.args.by.depth (Denotes types c.args.by.depth c.args.depth) c.args.row unknown (members_view c.args.members.now)
+    (fields_of (kind_at c.args.by.types.table.now (Some c.args.row))) c.args.made.now
+
+pub read_fields-loop-place-preserved : goal.read_fields-loop-place-preserved
+read_fields-loop-place-preserved t c = λ unknown.
+    let types = seen c.args.by.types in
+    let fs = fields_of (kind_at c.args.by.types.table.now (Some c.args.row)) in
+    let i = c.loop-place.place in
+    let all = ap (λ l. length l) c.fields-fields.ensures in
+    let lt : i < length fs = omega (arith, all, c.loop-place-test.true, c.loop-place.auto.place-end) in
+    field_made types c.args.by.depth (Denotes types c.args.by.depth c.args.depth) c.args.row unknown (members_view c.args.members.now) fs i
+    c.index-fields-place.result.now c.args.made.now c.loop-place.made c.read_field.new.made
+    (drop_more fs i _ lt ∙ ?field) (c.loop-place.invariant unknown) c.in_ok-read_field.ensures
+
+pub read_fields-returns : goal.read_fields-returns
+read_fields-returns t c = λ unknown. ?fields
+
+pub read_array-loop-place-init : goal.read_array-loop-place-init
+read_array-loop-place-init t c = no_item value_view c.as_slice-items.result.now (Denotes (seen c.args.by.types) c.args.by.depth c.args.depth c.args.inner) c.args.made.now
+
+pub read_array-loop-place-preserved : goal.read_array-loop-place-preserved
+read_array-loop-place-preserved t c =
+    let items = c.as_slice-items.result.now in
+    let i = c.loop-place.place in
+    let lt : i < length items = grind (arith, c.loop-place-test.true, c.loop-place.auto.place-end) in
+    next_item value_view items (Denotes (seen c.args.by.types) c.args.by.depth c.args.depth c.args.inner) i _ c.args.made.now c.loop-place.made
+    c.read_value.new.made lt c.loop-place.invariant c.in_ok-read_value.ensures
+
+pub read_array-returns : goal.read_array-returns
+read_array-returns t c =
+    let items = c.as_slice-items.result.now in
+    let Sub = Denotes (seen c.args.by.types) c.args.by.depth c.args.depth c.args.inner in
+    let le : length items ≤ c.loop-place.place = grind (arith, c.loop-place-test.false, c.loop-place.auto.place-end) in
+    row_as (DenoteItems Sub (items_of (map value_view items))) (DenotesItems Sub (value_view c.args.value.now)) c.args.made.now c.loop-place.made
+    (λ vs d. (items_of (map value_view items), ap value_view c.in-Array.is ∙ ap (λ l. array (items_of (map value_view l))) (sym c.as_slice-items.ensures.value), d))
+    (all_items value_view items Sub c.loop-place.place c.args.made.now c.loop-place.made le c.loop-place.invariant)
+
+pub read_members-loop-place-init : goal.read_members-loop-place-init
+read_members-loop-place-init t c = ?begun
+
+pub read_members-loop-place-preserved : goal.read_members-loop-place-preserved
+read_members-loop-place-preserved t c = ?member
+
+pub read_set-returns : goal.read_set-returns
+read_set-returns t c =
+    let types = seen c.args.by.types in
+    let Sub = Denotes types c.args.by.depth c.args.depth c.args.inner in
+    let items = c.as_slice-items.result.now in
+    let ms = c.in_ok-members.members.items in
+    let ns = c.arrange.new.members.items in
+    let same = c.as_slice.ensures.value in
+    let order = members_in_order ms ns (map value_view items) c.arrange.ensures c.in_ok-members.ensures.all in
+    let each = All-permutation (IsMember Sub) ms ns c.arrange.ensures c.in_ok-members.ensures.each in
+    row_made (DenoteItems Sub (items_of (map document_of ns))) (DenotesSet Sub (value_view c.args.value.now))
+    c.new-arranged.result c.put_members.new.made c.args.made.now c.put_row.new.self c.new-arranged.ensures
+    (subst (λ l. MakesRow (DenoteItems Sub (items_of (map document_of l))) c.new-arranged.result c.put_members.new.made) same
+    (c.in_ok-put_members.ensures types c.args.by.depth c.args.depth c.args.inner (subst (AreMembers Sub) (sym same) each)))
+    c.in_ok-put_row.ensures
+    (λ vs d. (items_of (map value_view items), vs,
+    ap value_view c.in-Array.is ∙ ap (λ l. array (items_of (map value_view l))) (sym c.as_slice-items.ensures.value), refl,
+    (items_of (map document_of ns), order, d)))
+
+pub read_kind-returns-in-Sequence : goal.read_kind-returns-in-Sequence
+read_kind-returns-in-Sequence t c =
+    let types = seen c.args.by.types in
+    let Sub = Denotes types c.args.by.depth c.args.depth in
+    subst (λ k. OnOk c.read_row.result (Makes (DenotesKind types c.args.by.depth Sub c.args.at (Some k) (value_view c.args.value.now)) c.args.made.now c.read_row.new.made))
+    (sym c.in-Sequence.is) (on_ok c.read_row.result _ _ (λ m. makes_as _ _ _ _
+    (λ v d. sequence_is types c.args.by.depth Sub c.args.at (value_view c.args.value.now) v _ (c.requires.kind ∙ ap Some c.in-Sequence.is) d) m) c.read_row.ensures)
+
+pub read_kind-returns-in-Set : goal.read_kind-returns-in-Set
+read_kind-returns-in-Set t c =
+    let types = seen c.args.by.types in
+    let Sub = Denotes types c.args.by.depth c.args.depth in
+    subst (λ k. OnOk c.read_row-in-Set.result (Makes (DenotesKind types c.args.by.depth Sub c.args.at (Some k) (value_view c.args.value.now)) c.args.made.now c.read_row-in-Set.new.made))
+    (sym c.in-Set.is) (on_ok c.read_row-in-Set.result _ _ (λ m. makes_as _ _ _ _
+    (λ v d. sequence_is types c.args.by.depth Sub c.args.at (value_view c.args.value.now) v _ (c.requires.kind ∙ ap Some c.in-Set.is) d) m) c.read_row-in-Set.ensures)
+
+pub read_kind-returns-in-SequenceOf : goal.read_kind-returns-in-SequenceOf
+read_kind-returns-in-SequenceOf t c =
+    let types = seen c.args.by.types in
+    let Sub = Denotes types c.args.by.depth c.args.depth in
+    subst (λ k. OnOk c.read_list.result (Makes (DenotesKind types c.args.by.depth Sub c.args.at (Some k) (value_view c.args.value.now)) c.args.made.now c.read_list.new.made))
+    (sym c.in-SequenceOf.is) c.read_list.ensures
+
+pub read_kind-returns-in-SetOf : goal.read_kind-returns-in-SetOf
+read_kind-returns-in-SetOf t c =
+    let types = seen c.args.by.types in
+    let Sub = Denotes types c.args.by.depth c.args.depth in
+    subst (λ k. OnOk c.read_set.result (Makes (DenotesKind types c.args.by.depth Sub c.args.at (Some k) (value_view c.args.value.now)) c.args.made.now c.read_set.new.made))
+    (sym c.in-SetOf.is) c.read_set.ensures
+
+pub read_kind-returns-in-Choice : goal.read_kind-returns-in-Choice
+read_kind-returns-in-Choice t c =
+    let types = seen c.args.by.types in
+    let Sub = Denotes types c.args.by.depth c.args.depth in
+    subst (λ k. OnOk c.read_choice.result (Makes (DenotesKind types c.args.by.depth Sub c.args.at (Some k) (value_view c.args.value.now)) c.args.made.now c.read_choice.new.made))
+    (sym c.in-Choice.is) (on_ok c.read_choice.result _ _ (λ m. makes_as _ _ _ _
+    (λ v d. choice_is types c.args.by.depth Sub c.args.at (value_view c.args.value.now) v _ (c.requires.kind ∙ ap Some c.in-Choice.is) d) m) c.read_choice.ensures)
+
+pub read_kind-returns-in_default : goal.read_kind-returns-in_default
+read_kind-returns-in_default t c =
+    let types = seen c.args.by.types in
+    let Sub = Denotes types c.args.by.depth c.args.depth in
+    on_ok c.read_leaf.result _ _ (λ m. makes_as _ _ _ _
+    (λ v d. simple_is_kind types c.args.by.depth Sub c.args.at c.args.kind.now (value_view c.args.value.now) v d) m) c.read_leaf.ensures
+
+pub read_value-returns : goal.read_value-returns
+read_value-returns t c =
+    let types = seen c.args.by.types in
+    makes_as _ _ _ _ (λ v d. denotes_by types c.args.by.depth c.args.depth c.args.of c.in-Some.at c.in-Some-kind.kind.now
+    (value_view c.args.value.now) v c.if-depth-eq0.false ?resolved ?kind d) c.in_ok-read_kind.ensures
