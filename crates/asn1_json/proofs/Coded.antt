@@ -1,5 +1,8 @@
 -- The octets of texts in the code of their type.
-use Rattle.std.proofs.Common.{◌≡◌, ◌∙◌, ap, sym, refl, ℕ, List, encode_utf8_all, IsUtf8}
+use Rattle.std.proofs.Common.{◌≡◌, ◌∙◌, ap, sym, refl, ℕ, List, encode_utf8_all, IsUtf8, Result, Ok, Err, Option, Some, None, MatchOption}
+use Rattle.std.specs.Prelude.{IfOk}
+use Rattle.std.specs.declared.vec.Vec.{Vec}
+use Rattle.std.specs.declared.alloc.Global.{Global}
 use Rattle.std.specs.Str.{chars}
 use Rattle.std.proofs.lemmas.Str.{scalars-chars, encodes-chars}
 use Rattle.x690.specs.Octets.{IsOctets}
@@ -29,3 +32,12 @@ other_text texts.Graphic s o a b c d e = (d, e)
 other_text texts.Visible s o a b c d e = (d, e)
 other_text texts.General s o a b c d e = (d, e)
 other_text texts.Descriptor s o a b c d e = (d, e)
+
+pub if_text : {E : Type 0} (kind : TextKind) (s : List ℕ) (r : Result (Option (Vec ℕ Global)) E) → (kind ≡ texts.Utf8 → ⊥) →
+    (kind ≡ texts.Bmp → ⊥) → (kind ≡ texts.Universal → ⊥) →
+    IfOk r (λ found. MatchOption found (Unit {0}) (λ octets. IsOctets octets.items)) →
+    IfOk r (λ found. MatchOption found (Unit {0}) (λ octets. s ≡ encode_utf8_all octets.items)) →
+    IfOk r (λ found. MatchOption found (Unit {0}) (λ octets. DenotesText kind s octets.items))
+if_text kind s (Ok (Some v)) a b c d e = other_text kind s v.items a b c d e
+if_text kind s (Ok None) a b c d e = tt
+if_text kind s (Err x) a b c d e = tt

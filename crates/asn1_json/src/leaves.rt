@@ -97,11 +97,7 @@ fn put_hexadecimal<W: TokenWriter>(
 }
 
 /// The arcs of an identifier, with points between them.
-pub(crate) fn arcs_text(
-    alloc: Global,
-    relative: bool,
-    content: &[u8],
-) -> Result<String, AllocError>
+pub(crate) fn arcs_text(alloc: Global, relative: bool, content: &[u8]) -> Result<String, AllocError>
     requires { are_shown relative content.now ≡ true }
     ensures { IfOk result (λ text.
         string_bytes text ≡ spec_arcs_text (spec_arcs relative content.now)) }

@@ -148,7 +148,8 @@ fn made_from(
 ) -> Result<JsonTape, FromJsonError>
     requires sound { is_sound by.types.table.now ≡ true }
     ensures ok { IfOk result (λ made. (kept : Kept) × (made_marks made ≡ tape_of kept) ×
-        Denotes (seen by.entry.types) by.entry.depth 129 of (value_view value.now) (value_of kept)) }
+        Denotes (seen by.entry.types) by.entry.depth 129 of (value_view value.now)
+        (value_of kept)) }
     ensures refused { IfErr result (IsWithin (length text.now)) }
 {
     let mut made = JsonTape::new(by.alloc);
@@ -160,6 +161,34 @@ fn made_from(
             let refusal = refusal_of(by, text, value, &trail)?;
             Err(FromJsonError::Refused(refusal))
         }
+    }
+}
+
+/// The tape of the value that a text of JSON denotes.
+fn made_from_text(
+    alloc: Global,
+    schema: &Schema<'_>,
+    of: usize,
+    depth: usize,
+    text: &str,
+) -> Result<JsonTape, FromJsonError>
+    requires { is_sound schema.now.nodes.items ≡ true }
+    ensures ok { IfOk result (IsMadeFrom schema.now depth of text.now) }
+    ensures refused { IfErr result (IsWithin (length text.now)) }
+{
+    let table = schema.nodes.as_slice();
+    let names = schema.names.as_slice();
+    let types = Types { table, names };
+    let by = By {
+        alloc,
+        types,
+        depth,
+    };
+    let mut scratch = Scratch::new(alloc);
+    match Value::parse(alloc, text, &mut scratch) {
+        Ok(value) => made_from(by, of, text, &value),
+        Err(Error::OutOfMemory) => Err(FromJsonError::OutOfMemory),
+        Err(_) => Err(no_json(alloc, of, text)),
     }
 }
 
@@ -181,23 +210,11 @@ pub fn tape_from_json(
     ensures ok { IfOk result (IsMadeFrom schema.now depth of octets.now) }
     ensures refused { IfErr result (IsWithin (length octets.now)) }
 {
-    let text = match str::from_utf8(octets) {
-        Ok(text) => text,
-        Err(error) => return Err(text_refused(alloc, of, error.valid_up_to(), Reason::Utf8)),
-    };
-    let types = Types {
-        table: schema.nodes.as_slice(),
-        names: schema.names.as_slice(),
-    };
-    let by = By {
-        alloc,
-        types,
-        depth,
-    };
-    let mut scratch = Scratch::new(alloc);
-    match Value::parse(alloc, text, &mut scratch) {
-        Ok(value) => made_from(by, of, text, &value),
-        Err(Error::OutOfMemory) => Err(FromJsonError::OutOfMemory),
-        Err(_) => Err(no_json(alloc, of, text)),
+    match str::from_utf8(octets) {
+        Ok(text) => made_from_text(alloc, schema, of, depth, text),
+        Err(error) => {
+            let octet = error.valid_up_to().min(octets.len());
+            Err(text_refused(alloc, of, octet, Reason::Utf8))
+        }
     }
 }

@@ -1,7 +1,8 @@
 //! JSON as octets, by a type of a table.
-ghost use Rattle.std.specs.Prelude.{◌≡◌, true, IfOk};
+ghost use Rattle.std.specs.Prelude.{ℕ, ◌≡◌, true, IfOk};
 ghost use Rattle.asn1_schema.specs.Sound.{is_sound};
 ghost use Rattle.asn1_schema.specs.Tape.{Kept, tape_of, value_of};
+ghost use Rattle.asn1_schema.specs.Values.{Value as SpecValue};
 ghost use Rattle.asn1_json.specs.Made.{made_marks};
 ghost use Rattle.asn1_typed.specs.Encodings.{IsEncoded, IsWritten};
 
@@ -64,7 +65,10 @@ fn refused(
     schema: &Schema<'_>,
     input: Input<'_>,
     refusal: &JsonRefusal,
-) -> Result<Encoded, RunError> {
+) -> Result<Encoded, RunError>
+    ensures written { (of : ℕ) (value : SpecValue) → IfOk result (IsWritten schema.now of value) }
+    ensures encoded { (of : ℕ) → IfOk result (IsEncoded schema.now of input.entry) }
+{
     let mut line = Vec::new(alloc);
     push_refused(&mut line, input, schema, refusal)?;
     Ok(Encoded::Refused(line))

@@ -48,7 +48,10 @@ pub(super) fn encoded(
 pub(super) fn arrange(members: &mut Vec<Member<'_, '_>>) -> Result<(), AllocError>
     ensures { IsPermutation members.old.items members.new.items }
 {
-    members.sort_by(|a: &Member<'_, '_>, b: &Member<'_, '_>| a.octets.as_bytes().cmp(b.octets.as_bytes()))
+    members.sort_by(|a: &Member<'_, '_>, b: &Member<'_, '_>| a
+        .octets
+        .as_bytes()
+        .cmp(b.octets.as_bytes()))
 }
 
 /// Puts members on a tape, in their order.

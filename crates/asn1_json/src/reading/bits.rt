@@ -72,7 +72,8 @@ fn unused_in(alloc: Global, number: &str, octets: &[u8]) -> Result<Option<u8>, A
     ensures number { IfOk result (λ found. MatchOption found (Unit {0})
         (λ unused. number.now ≡ number_text (8 * length octets.now - unused))) }
     ensures filled { IfOk result (λ found. MatchOption found (Unit {0})
-        (λ unused. octets.now ≡ spec_octets (take (8 * length octets.now - unused) (bits_in octets.now)))) }
+        (λ unused. octets.now ≡
+        spec_octets (take (8 * length octets.now - unused) (bits_in octets.now)))) }
 {
     let all = used_bits(alloc, 0, octets)?;
     let Some(unused) = unused_bits(alloc, number, all.len())? else {
@@ -92,7 +93,8 @@ pub(super) fn bits_of<'a>(
     members: &[(&'a str, Value<'a>)],
 ) -> Result<Option<(u8, Vec<u8>)>, AllocError>
     ensures { IfOk result (λ found. MatchOption found (Unit {0}) (λ bits. DenotesBits
-        (members_view members.now) (take (8 * length bits.1.items - bits.0) (bits_in bits.1.items)))) }
+        (members_view members.now)
+        (take (8 * length bits.1.items - bits.0) (bits_in bits.1.items)))) }
 {
     if members.len() != 2 {
         return Ok(None);

@@ -1,5 +1,5 @@
 //! Values without parts, from JSON.
-ghost use Rattle.std.specs.Prelude.{ℤ, Bool, [], ◌≡◌, ◌<◌, ◌++◌, true, Some, IfOk, IfSome, MatchResult, OnOk, length};
+ghost use Rattle.std.specs.Prelude.{ℤ, Bool, [], ◌≡◌, ◌<◌, ◌++◌, true, Some, IfOk, IfSome, MatchOption, MatchResult, OnOk, length};
 ghost use Rattle.x690.specs.Digits.{twos_complement_value};
 ghost use Rattle.x690.specs.Strict.{header_octets};
 ghost use Rattle.std.specs.declared.vec.Vec.{Vec};
@@ -10,6 +10,7 @@ ghost use Rattle.asn1_schema.specs.declared.schema.Kind.TheVariants as kinds;
 ghost use Rattle.asn1_schema.specs.Sound.{is_sound};
 ghost use Rattle.asn1_schema.specs.Tape.{leaf_mark, mark, marks};
 ghost use Rattle.asn1_schema.specs.Values.{Leaf, Value as SpecValue, leaf};
+ghost use Rattle.asn1_json.specs.DenotedLeaves.{DenotesIdentifier};
 ghost use Rattle.asn1_json.specs.Made.{tape_of_value};
 ghost use Rattle.asn1_json.specs.Outcomes.{DenotesSimple, HasWord, IsElementItem, Makes, Reads};
 ghost use Rattle.asn1_json.specs.Types.{labels_at};
@@ -54,7 +55,8 @@ pub(super) fn judge(
     requires { is_sound by.types.table.now ≡ true }
     ensures { (v : SpecValue) → marks tape.now ≡ tape_of_value v → MatchResult result
         (λ _. HasWord by.entry.types.table.now by.entry.depth of v)
-        (λ fault. fault ≡ faults.Refused → HasWord by.entry.types.table.now by.entry.depth of v → ⊥) }
+        (λ fault. fault ≡ faults.Refused →
+        HasWord by.entry.types.table.now by.entry.depth of v → ⊥) }
 {
     tapes_begin_with_one_value();
     let mut buf = DerBuffer::new(by.alloc);
@@ -242,7 +244,18 @@ fn read_octets(
     }
 }
 
-/// An identifier: by its arcs, or in hexadecimal where these are too large to be shown.
+/// The contents octets of an identifier: by its arcs, or in hexadecimal where these are too large to be shown.
+fn content_of(alloc: Global, relative: bool, text: &str) -> Result<Option<Vec<u8>>, AllocError>
+    ensures { IfOk result (λ found. MatchOption found (Unit {0})
+        (λ content. DenotesIdentifier relative text.now content.items)) }
+{
+    if has_arcs(relative, text) {
+        return identifier_content(alloc, relative, text);
+    }
+    hexadecimal(alloc, text)
+}
+
+/// An identifier.
 fn read_identifier(
     by: By<'_, '_>,
     of: usize,
@@ -255,12 +268,7 @@ fn read_identifier(
     ensures { OnOk result (Makes (DenotesSimple [] (kinds.Identifier relative)
         (string text.now)) made.old made.new) }
 {
-    let content = if has_arcs(relative, text) {
-        identifier_content(by.alloc, relative, text)?
-    } else {
-        hexadecimal(by.alloc, text)?
-    };
-    match content {
+    match content_of(by.alloc, relative, text)? {
         Some(content) => put(by, of, Item::Identifier(relative, &content), made, trail),
         None => Err(trail.refused(of, Reason::Identifier)),
     }

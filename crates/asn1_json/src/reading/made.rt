@@ -113,7 +113,8 @@ impl JsonTape {
 
     /// Puts an item behind the others, and its octets behind theirs.
     fn put(&mut self, item: &Item<'_>) -> Result<(), AllocError>
-        ensures behind { OnOk result (self.new.octets.items ≡ self.old.octets.items ++ lent item.now) }
+        ensures behind { OnOk result
+            (self.new.octets.items ≡ self.old.octets.items ++ lent item.now) }
         ensures marks { OnOk result ((more : List ℕ) → made_with self.new more ≡
             made_with self.old (lent item.now ++ more) ++ mark item.now ∷ []) }
     {
@@ -149,7 +150,8 @@ impl JsonTape {
     /// Puts a row behind the others, whose items are those of another tape.
     pub(super) fn put_row(&mut self, alloc: Global, inner: &JsonTape) -> Result<(), AllocError>
         ensures { (ms : List Mark) → made_marks inner.now ≡ ms → OnOk result
-            (Appends self.old self.new (between (begin_mark (length ms)) ms (end_mark (length ms)))) }
+            (Appends self.old self.new
+            (between (begin_mark (length ms)) ms (end_mark (length ms)))) }
     {
         let tape = inner.lend(alloc)?;
         let count = tape.len();

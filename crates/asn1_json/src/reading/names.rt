@@ -113,7 +113,8 @@ pub(super) fn member_of_field<'m, 'a>(
     members: &'m [(&'a str, Value<'a>)],
 ) -> Result<Option<(usize, &'m Value<'a>)>, AllocError>
     ensures { IfOk result (λ found. MatchOption found
-        (get_member (name_of_field (seen types.entry) (Some row) place) (members_view members.now) ≡ None)
+        (get_member (name_of_field (seen types.entry) (Some row) place)
+        (members_view members.now) ≡ None)
         (λ found. get_member (name_of_field (seen types.entry) (Some row) place)
         (members_view members.now) ≡ Some (value_view found.1.now))) }
 {
@@ -147,7 +148,8 @@ fn is_name_of_part(
     name: &str,
 ) -> Result<bool, AllocError>
     ensures { IfOk result (λ is. is ≡ true →
-        IsNameOfPart (seen types.entry) row (type_of_unknown (seen types.entry) (Some row)) name.now) }
+        IsNameOfPart (seen types.entry) row
+        (type_of_unknown (seen types.entry) (Some row)) name.now) }
 {
     if let Some(_of) = types.of_unknown(Some(row)) {
         if name == "..." {

@@ -91,7 +91,8 @@ fn read_field<'a>(
     requires sound { is_sound by.types.table.now ≡ true }
     ensures { OnOk result (MakesRow (DenotesOnce (seen by.entry.types) by.entry.depth
         (Denotes (seen by.entry.types) by.entry.depth depth) field.now
-        (get_member (name_of_field (seen by.entry.types) (Some row) place) (members_view members.now)))
+        (get_member (name_of_field (seen by.entry.types) (Some row) place)
+        (members_view members.now)))
         made.old made.new) }
 {
     match member_of_field(by.alloc, by.types, row, place, members)? {
@@ -140,8 +141,8 @@ fn read_array(
     trail: &mut Trail,
 ) -> Result<(), Fault>
     requires sound { is_sound by.types.table.now ≡ true }
-    ensures { OnOk result (MakesRow (DenotesItems (Denotes (seen by.entry.types) by.entry.depth depth inner)
-        (value_view value.now)) made.old made.new) }
+    ensures { OnOk result (MakesRow (DenotesItems
+        (Denotes (seen by.entry.types) by.entry.depth depth inner) (value_view value.now)) made.old made.new) }
 {
     let Value::Array(items) = value else {
         return Err(trail.refused(of, Reason::Array));
@@ -166,7 +167,8 @@ fn read_unknown<'a>(
     trail: &mut Trail,
 ) -> Result<(), Fault>
     requires sound { is_sound by.types.table.now ≡ true }
-    ensures { OnOk result (MakesRow (DenoteUnknown (Denotes (seen by.entry.types) by.entry.depth depth)
+    ensures { OnOk result (MakesRow (DenoteUnknown
+        (Denotes (seen by.entry.types) by.entry.depth depth)
         (type_of_unknown (seen by.entry.types) (Some row))
         (get_member (codes "...") (members_view members.now))) made.old made.new) }
 {
@@ -197,7 +199,8 @@ fn read_row(
     ensures { OnOk result (Makes (DenotesRow (seen by.entry.types) by.entry.depth
         (Denotes (seen by.entry.types) by.entry.depth depth) row
         (fields_of (kind_at by.entry.types.table.now (Some row)))
-        (type_of_unknown (seen by.entry.types) (Some row)) (value_view value.now)) made.old made.new) }
+        (type_of_unknown (seen by.entry.types) (Some row)) (value_view value.now))
+        made.old made.new) }
 {
     let Value::Object(members) = value else {
         return Err(trail.refused(of, Reason::Object));
@@ -223,8 +226,8 @@ fn read_list(
     trail: &mut Trail,
 ) -> Result<(), Fault>
     requires sound { is_sound by.types.table.now ≡ true }
-    ensures { OnOk result (Makes (DenotesList (Denotes (seen by.entry.types) by.entry.depth depth inner)
-        (value_view value.now)) made.old made.new) }
+    ensures { OnOk result (Makes (DenotesList
+        (Denotes (seen by.entry.types) by.entry.depth depth inner) (value_view value.now)) made.old made.new) }
 {
     let mut items = JsonTape::new(by.alloc);
     read_array(by, depth, of, inner, value, &mut items, trail)?;
@@ -242,7 +245,8 @@ fn read_members<'v, 'a>(
     trail: &mut Trail,
 ) -> Result<Vec<Member<'v, 'a>>, Fault>
     requires sound { is_sound by.types.table.now ≡ true }
-    ensures all { IfOk result (λ members. map document_of members.items ≡ map value_view items.now) }
+    ensures all { IfOk result (λ members.
+        map document_of members.items ≡ map value_view items.now) }
     ensures each { IfOk result (λ members. AreMembers
         (Denotes (seen by.entry.types) by.entry.depth depth of) members.items) }
 {
@@ -270,8 +274,8 @@ fn read_set(
     trail: &mut Trail,
 ) -> Result<(), Fault>
     requires sound { is_sound by.types.table.now ≡ true }
-    ensures { OnOk result (Makes (DenotesSet (Denotes (seen by.entry.types) by.entry.depth depth inner)
-        (value_view value.now)) made.old made.new) }
+    ensures { OnOk result (Makes (DenotesSet
+        (Denotes (seen by.entry.types) by.entry.depth depth inner) (value_view value.now)) made.old made.new) }
 {
     let Value::Array(items) = value else {
         return Err(trail.refused(of, Reason::Array));
@@ -338,7 +342,8 @@ fn read_kind(
     requires sound { is_sound by.types.table.now ≡ true }
     requires kind { kind_at by.types.table.now (Some at) ≡ Some kind.now }
     ensures { OnOk result (Makes (DenotesKind (seen by.entry.types) by.entry.depth
-        (Denotes (seen by.entry.types) by.entry.depth depth) at (Some kind.now) (value_view value.now))
+        (Denotes (seen by.entry.types) by.entry.depth depth) at (Some kind.now)
+        (value_view value.now))
         made.old made.new) }
 {
     match kind {

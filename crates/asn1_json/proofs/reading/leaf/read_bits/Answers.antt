@@ -21,6 +21,10 @@ returns-in-Some c = λ named.
     let ms = members_view c.deref.result.now in
     let said = some_of (λ found. DenotesBits ms (take (8 * length found.1.items - found.0) (bits_in found.1.items)))
     c.in_ok-unused.field-0 (u, c.in-Some.octets) c.in-Some.is c.in_ok-unused.ensures in
-    put_leaf l [] (kinds.Bits named) (value_view c.args.value.now) _ _ _ c.put.result (c.put.ensures l refl)
-    (ms, bs c.in-Some.octets.items, ap value_view c.in-Object.is ∙ ap (λ z. object (members_view z)) (sym c.deref.ensures.value), said,
-    ap (λ (o : List ℕ). bits (bs o)) c.deref-in-Some.ensures.value)
+    put_leaf l [] (kinds.Bits named) (value_view c.args.value.now) _ _ _ c.put.result (c.put.ensures l refl) (
+      ms,
+      bs c.in-Some.octets.items,
+      ap value_view c.in-Object.is ∙ ap (λ z. object (members_view z)) (sym c.deref.ensures.value),
+      said,
+      ap (λ (o : List ℕ). bits (bs o)) c.deref-in-Some.ensures.value,
+    )

@@ -1,19 +1,19 @@
 use Rattle.std.proofs.Common.{◌≡◌, ◌∙◌, ap, sym, refl, subst, ℕ, suc, ◌+◌, ◌-◌, ◌<◌, ◌≤◌, List, [], ◌∷◌, ◌++◌, length, map, take, drop, Option, Some, None, codes, arith}
-use Rattle.std.specs.Prelude.{OnOk}
+use Rattle.std.specs.Prelude.{OnOk, IfSome, MatchOption}
 use Rattle.std.proofs.lemmas.List.{drop_more, take_more, take_all, map-append}
 use Rattle.json.specs.Json.{Json, object, array, member, no_members}
 use Rattle.json.specs.Find.{get_member}
 use Rattle.json.specs.Value.{items_of, members_view, value_view}
 use Rattle.asn1_schema.specs.declared.schema.Kind.{Kind}
 use Rattle.asn1_schema.specs.Values.{Value, Values, row, chosen, none, more}
-use Rattle.asn1_json.specs.Denotes.{Denotes, DenoteFields, DenoteItems, DenotesChosen, DenotesKind, DenotesRow, DenoteUnknown}
+use Rattle.asn1_json.specs.Denotes.{Denotes, DenoteFields, DenoteItems, DenotesChosen, DenotesKind, DenotesRow, DenoteUnknown, arm_from}
 use Rattle.asn1_json.specs.Outcomes.{AreMembers, IsMember, DenoteFirst, DenotesItems, DenotesList, DenotesOnce, DenotesSet, LeftOutOnce, Makes, MakesRow, document_of}
 use Rattle.asn1_json.specs.Tokens.{Types, name_of_field, seen, type_of_unknown}
 use Rattle.asn1_json.specs.Types.{arms_of, fields_of, kind_at, labels_at, resolved}
 use Rattle.asn1_json.proofs.Rows.{row_made, arm_made, row_of_one, row_of_none, item_made, fields_begun, field_made, fields_made, makes_as, row_as}
 use Rattle.asn1_json.proofs.MadeLeaves.{simple_is_kind}
 use Rattle.std.proofs.lemmas.List.Sorted.{All-permutation}
-use Rattle.asn1_json.proofs.Kinds.{on_ok, no_item, next_item, all_items, member_made, members_in_order, sequence_is, choice_is, denotes_by}
+use Rattle.asn1_json.proofs.ByKind.{on_ok, no_item, next_item, all_items, member_more, taken_more, none_of, no_unknown, members_in_order, sequence_is, choice_is, denotes_by}
 use Rattle.asn1_json.proofs.reading.values.+making.Goals as goal
 
 pub read_list-returns : goal.read_list-returns
@@ -37,23 +37,38 @@ read_row-returns t c =
     (fields_made types depth Sub c.args.row unknown ms fs c.new-inner.result c.read_fields.new.made c.read_unknown.new.made
     (c.in_ok-read_fields.ensures unknown) c.in_ok-read_unknown.ensures)
     c.in_ok-put_row.ensures
-    (λ vs d. (ms, vs, ap value_view c.in-Object.is ∙ ap (λ l. object (members_view l)) (sym c.as_slice-members.ensures.value), refl,
-    c.in_ok-judge_names.ensures, d))
+    (λ vs d. (
+      ms,
+      vs,
+      ap value_view c.in-Object.is ∙ ap (λ l. object (members_view l)) (sym c.as_slice-members.ensures.value),
+      refl,
+      c.in_ok-judge_names.ensures,
+      d,
+    ))
 
 pub read_choice-returns : goal.read_choice-returns
 read_choice-returns t c =
     let types = seen c.args.by.types in
     let Sub = Denotes types c.args.by.depth c.args.depth in
     let j = value_view c.args.value.now in
-    let arm = c.in-Some-arm.arm in
-    let of = c.in-Some-of_arm.of_arm in
+    let arm = c.in-Some-2.arm in
+    let of = c.in-Some-3.of_arm in
     arm_made (Sub of (value_view c.in-Some.inner.now))
     (DenotesChosen types Sub c.args.choice (arms_of (kind_at c.args.by.types.table.now (Some c.args.choice))) j)
     arm c.args.made.now c.push.new.self c.read_value.new.made c.push-2.new.self
     c.in_ok-push.ensures c.in_ok-read_value.ensures c.in_ok-push-2.ensures
-    (λ v d. (c.in-Some.name.now, value_view c.in-Some.inner.now, arm, of, v,
-    ap value_view c.in-Object.is ∙ ap (λ l. object (members_view l)) (sym c.as_slice.ensures.value) ∙ ap object c.in-Some.ensures,
-    refl, ?named, ?of, d))
+    (λ v d. (
+      c.in-Some.name.now,
+      value_view c.in-Some.inner.now,
+      arm,
+      of,
+      v,
+      ap value_view c.in-Object.is ∙ ap (λ l. object (members_view l)) (sym c.as_slice.ensures.value) ∙ ap object c.in-Some.ensures,
+      refl,
+      subst (λ f. IfSome f (λ a. arm_from types c.args.choice c.in-Some.name.now (arms_of (kind_at c.args.by.types.table.now (Some c.args.choice))) 0 ≡ Some a)) c.in-Some-2.is c.in_ok-arm.ensures,
+      sym c.of_arm.ensures ∙ c.in-Some-3.is,
+      d,
+    ))
 
 pub read_fields-loop-place-init : goal.read_fields-loop-place-init
 read_fields-loop-place-init t c = λ unknown.
@@ -99,7 +114,15 @@ pub read_members-loop-place-init : goal.read_members-loop-place-init
 read_members-loop-place-init t c = ?begun
 
 pub read_members-loop-place-preserved : goal.read_members-loop-place-preserved
-read_members-loop-place-preserved t c = ?member
+read_members-loop-place-preserved t c =
+    let items = c.args.items.now in
+    let i = c.loop-place.place in
+    let Sub = Denotes (seen c.args.by.types) c.args.by.depth c.args.depth c.args.of in
+    let lt : i < length items = grind (arith, c.loop-place-test.true, c.loop-place.auto.place-end) in
+    let inv = c.loop-place.invariant in
+    let r = member_more Sub c.loop-place.members.items c.push.new.self.items _ c.new-made.result (map value_view (take i items))
+    c.in_ok-push.ensures.items inv.0 inv.1 c.new-made.ensures c.in_ok-read_value.ensures in
+    (r.0 ∙ sym (taken_more value_view items i _ lt), r.1)
 
 pub read_set-returns : goal.read_set-returns
 read_set-returns t c =
@@ -116,9 +139,13 @@ read_set-returns t c =
     (subst (λ l. MakesRow (DenoteItems Sub (items_of (map document_of l))) c.new-arranged.result c.put_members.new.made) same
     (c.in_ok-put_members.ensures types c.args.by.depth c.args.depth c.args.inner (subst (AreMembers Sub) (sym same) each)))
     c.in_ok-put_row.ensures
-    (λ vs d. (items_of (map value_view items), vs,
-    ap value_view c.in-Array.is ∙ ap (λ l. array (items_of (map value_view l))) (sym c.as_slice-items.ensures.value), refl,
-    (items_of (map document_of ns), order, d)))
+    (λ vs d. (
+      items_of (map value_view items),
+      vs,
+      ap value_view c.in-Array.is ∙ ap (λ l. array (items_of (map value_view l))) (sym c.as_slice-items.ensures.value),
+      refl,
+      (items_of (map document_of ns), order, d),
+    ))
 
 pub read_kind-returns-in-Sequence : goal.read_kind-returns-in-Sequence
 read_kind-returns-in-Sequence t c =
@@ -168,5 +195,38 @@ read_kind-returns-in_default t c =
 pub read_value-returns : goal.read_value-returns
 read_value-returns t c =
     let types = seen c.args.by.types in
-    makes_as _ _ _ _ (λ v d. denotes_by types c.args.by.depth c.args.depth c.args.of c.in-Some.at c.in-Some-kind.kind.now
-    (value_view c.args.value.now) v c.if-depth-eq0.false ?resolved ?kind d) c.in_ok-read_kind.ensures
+    makes_as _ _ _ _ (λ v d. denotes_by types c.args.by.depth c.args.depth c.args.of c.in-Some.at c.in-Some-2.kind.now
+    (value_view c.args.value.now) v c.if-depth-eq0.false (sym c.resolved.ensures ∙ c.in-Some.is) (subst (λ o. MatchOption o (kind_at c.args.by.types.table.now (Some c.in-Some.at) ≡ None) (λ k. kind_at c.args.by.types.table.now (Some c.in-Some.at) ≡ Some k.now)) c.in-Some-2.is c.kind.ensures) d) c.in_ok-read_kind.ensures
+
+pub read_field-returns-in-None : goal.read_field-returns-in-None
+read_field-returns-in-None t c =
+    let types = seen c.args.by.types in
+    let Sub = Denotes types c.args.by.depth c.args.depth in
+    let found = get_member (name_of_field types (Some c.args.row) c.args.place) (members_view c.args.members.now) in
+    let e : found ≡ None = subst (λ f. MatchOption f (found ≡ None) (λ x. found ≡ Some (value_view x.1.now))) c.in-None.is c.in_ok-member.ensures in
+    subst (λ o. OnOk c.leave_out.result (MakesRow (DenotesOnce types c.args.by.depth Sub c.args.field.now o) c.args.made.now c.leave_out.new.made))
+    (sym e) c.leave_out.ensures
+
+pub read_field-returns-in_ok-read_value-in-Some : goal.read_field-returns-in_ok-read_value-in-Some
+read_field-returns-in_ok-read_value-in-Some t c =
+    let types = seen c.args.by.types in
+    let Sub = Denotes types c.args.by.depth c.args.depth in
+    let f = c.args.field.now in
+    let j = value_view c.in-Some.value.now in
+    let found = get_member (name_of_field types (Some c.args.row) c.args.place) (members_view c.args.members.now) in
+    let e : found ≡ Some j = subst (λ f. MatchOption f (found ≡ None) (λ x. found ≡ Some (value_view x.1.now))) c.in-Some.is c.in_ok-member.ensures in
+    subst (λ o. MakesRow (DenotesOnce types c.args.by.depth Sub f o) c.args.made.now c.read_value.new.made)
+    (sym e) (row_of_one (Sub f.of j) (DenotesOnce types c.args.by.depth Sub f (Some j)) c.args.made.now c.read_value.new.made
+    c.in_ok-read_value.ensures (λ v d. (d, refl)))
+
+pub read_unknown-returns : goal.read_unknown-returns
+read_unknown-returns t c =
+    let types = seen c.args.by.types in
+    let Sub = Denotes types c.args.by.depth c.args.depth in
+    let t = c.in-Some.of in
+    let j = value_view c.in-Some-2.value.now in
+    let found = get_member (codes "...") (members_view c.args.members.now) in
+    let e : type_of_unknown types (Some c.args.row) ≡ Some t = sym c.of_unknown.ensures ∙ c.in-Some.is in
+    let is : found ≡ Some j = subst (λ f. MatchOption f (found ≡ None) (λ x. found ≡ Some (value_view x.1.now))) c.in-Some-2.is c.member_named.ensures in
+    subst (λ u. MakesRow (DenoteUnknown Sub u found) c.args.made.now c.read_array.new.made) (sym e)
+    (subst (λ o. MakesRow (DenoteUnknown Sub (Some t) o) c.args.made.now c.read_array.new.made) (sym is) c.in_ok-read_array.ensures)

@@ -5,7 +5,7 @@ use Rattle.asn1_schema.specs.Grammar.{Body, LeftOut, Word}
 use Rattle.asn1_schema.specs.Rules.{der}
 use Rattle.asn1_schema.specs.Values.{Values, none, absent, more}
 use Rattle.asn1_json.specs.Outcomes.{LeftOutOnce, Makes, MakesRow}
-use Rattle.asn1_json.proofs.Kinds.{on_ok}
+use Rattle.asn1_json.proofs.ByKind.{on_ok}
 use Rattle.asn1_json.proofs.Rows.{row_of_absent, row_of_one}
 use Rattle.asn1_json.proofs.reading.values.leave_out.Goals as goal
 

@@ -1,6 +1,6 @@
 -- What parts of a value that are made come to, by the kind of its type.
 use Rattle.std.proofs.Common.{◌≡◌, ◌∙◌, ap, sym, refl, subst, ℕ, zero, suc, ◌+◌, ◌-◌, ◌<◌, ◌≤◌, List, [], ◌∷◌, ◌++◌, length, map, take, get_or, Option, Some, None, option_and_then, arith, Result, Ok, Err}
-use Rattle.std.specs.Prelude.{OnOk, All}
+use Rattle.std.specs.Prelude.{OnOk, IfOk, All}
 use Rattle.std.specs.List.Sorted.{IsPermutation}
 use Rattle.std.proofs.lemmas.List.{take_more, take_all, map-append}
 use Rattle.std.proofs.lemmas.List.Elements.{All-push}
@@ -17,7 +17,7 @@ use Rattle.asn1_json.specs.declared.reading.arranged.Member.{Member}
 use Rattle.asn1_json.specs.Made.{made_marks}
 use Rattle.asn1_json.specs.Tokens.{Types, type_of_unknown}
 use Rattle.asn1_json.specs.Types.{arms_of, fields_of, kind_at, resolved, unknown_type}
-use Rattle.asn1_json.specs.Denotes.{Denotes, DenoteItems, DenotesChosen, DenotesKind, DenotesResolved, DenotesRow, listed_items}
+use Rattle.asn1_json.specs.Denotes.{Denotes, DenoteItems, DenoteUnknown, DenotesChosen, DenotesKind, DenotesResolved, DenotesRow, listed_items}
 use Rattle.asn1_json.specs.Outcomes.{IsMember, Makes, MakesRow, document_of}
 use Rattle.asn1_json.proofs.Appended.{made_whole}
 use Rattle.asn1_json.proofs.Rows.{item_made, makes_as, row_of_none}
@@ -25,6 +25,10 @@ use Rattle.asn1_json.proofs.Rows.{item_made, makes_as, row_of_none}
 pub on_ok : {T E : Type 0} (r : Result T E) (P Q : Type 0) → (P → Q) → OnOk r P → OnOk r Q
 on_ok (Ok x) P Q f p = f p
 on_ok (Err e) P Q f p = tt
+
+pub if_ok : {T E : Type 0} (P Q : T → Type 0) (r : Result T E) → ((x : T) → P x → Q x) → IfOk r P → IfOk r Q
+if_ok P Q (Ok x) f p = f x p
+if_ok P Q (Err e) f p = tt
 
 -- One item more.
 
@@ -45,11 +49,32 @@ module _ {X : Type 0} (f : X → Json) (xs : List X) (Sub : Json → Value → T
   all_items i old new le a =
       subst (λ (l : List X). MakesRow (DenoteItems Sub (items_of (map f l))) old new) (take_all i xs le) a
 
+pub none_of : {X : Type 0} (o : Option X) → ((x : X) → o ≡ Some x → ⊥) → o ≡ None
+none_of None not = refl
+none_of (Some x) not = absurd (not x refl)
+
+-- no unknown elements
+pub no_unknown : (Sub : ℕ → Json → Value → Type 0) (unknown : Option ℕ) → DenoteUnknown Sub unknown None none
+no_unknown Sub None = refl
+no_unknown Sub (Some t) = refl
+
 -- Members of sets.
 
 pub member_made : (Sub : Json → Value → Type 0) (m : Member) (fresh : JsonTape) → made_marks fresh ≡ [] →
     Makes (Sub (document_of m)) fresh m.made → IsMember Sub m
 member_made Sub m fresh none a = (a.kept, made_whole fresh m.made (tape_of a.kept) none a.put, a.denotes)
+
+pub member_more : (Sub : Json → Value → Type 0) (ms ns : List Member) (m : Member) (fresh : JsonTape) (js : List Json) →
+    ns ≡ ms ++ m ∷ [] → map document_of ms ≡ js → All (IsMember Sub) ms → made_marks fresh ≡ [] →
+    Makes (Sub (document_of m)) fresh m.made → (map document_of ns ≡ js ++ document_of m ∷ []) × All (IsMember Sub) ns
+member_more Sub ms ns m fresh js e is all none made = (
+  ap (λ (l : List Member). map document_of l) e ∙ map-append document_of ms (m ∷ []) ∙ ap (λ (l : List Json). l ++ document_of m ∷ []) is,
+  subst (All (IsMember Sub)) (sym e) (All-push (IsMember Sub) ms m all (member_made Sub m fresh none made)),
+)
+
+pub taken_more : {X : Type 0} (f : X → Json) (xs : List X) (i : ℕ) (d : X) → i < length xs →
+    map f (take (i + 1) xs) ≡ map f (take i xs) ++ f (get_or xs i d) ∷ []
+taken_more {X} f xs i d lt = ap (λ (l : List X). map f l) (take_more xs i d lt) ∙ map-append f (take i xs) (get_or xs i d ∷ [])
 
 pub listed : (js : List Json) → listed_items (items_of js) ≡ js
 listed [] = refl
