@@ -36,13 +36,14 @@ module _ {X : Type 0} (f : X → Json) (xs : List X) (Sub : Json → Value → T
   pub no_item : (tape : JsonTape) → MakesRow (DenoteItems Sub (items_of (map f (take 0 xs)))) tape tape
   no_item tape = row_of_none (DenoteItems Sub (items_of (map f (take 0 xs)))) tape tt
 
-  pub next_item : (i : ℕ) (d : X) (old mid new : JsonTape) → i < length xs →
-      MakesRow (DenoteItems Sub (items_of (map f (take i xs)))) old mid → Makes (Sub (f (get_or xs i d))) mid new →
+  pub next_item : (i : ℕ) (x d : X) (old mid new : JsonTape) → x ≡ get_or xs i d → i < length xs →
+      MakesRow (DenoteItems Sub (items_of (map f (take i xs)))) old mid → Makes (Sub (f x)) mid new →
       MakesRow (DenoteItems Sub (items_of (map f (take (i + 1) xs)))) old new
-  next_item i d old mid new lt a b =
+  next_item i x d old mid new is lt a b =
       subst (λ (l : List Json). MakesRow (DenoteItems Sub (items_of l)) old new)
-      (sym (ap (λ (l : List X). map f l) (take_more xs i d lt) ∙ map-append f (take i xs) (get_or xs i d ∷ [])))
-      (item_made Sub (map f (take i xs)) (f (get_or xs i d)) old mid new a b)
+      (sym (ap (λ (l : List X). map f l) (take_more xs i d lt) ∙ map-append f (take i xs) (get_or xs i d ∷ [])
+      ∙ ap (λ (y : X). map f (take i xs) ++ f y ∷ []) (sym is)))
+      (item_made Sub (map f (take i xs)) (f x) old mid new a b)
 
   pub all_items : (i : ℕ) (old new : JsonTape) → length xs ≤ i → MakesRow (DenoteItems Sub (items_of (map f (take i xs)))) old new →
       MakesRow (DenoteItems Sub (items_of (map f xs))) old new
@@ -62,19 +63,24 @@ no_unknown Sub (Some t) = refl
 
 pub member_made : (Sub : Json → Value → Type 0) (m : Member) (fresh : JsonTape) → made_marks fresh ≡ [] →
     Makes (Sub (document_of m)) fresh m.made → IsMember Sub m
-member_made Sub m fresh none a = (a.kept, made_whole fresh m.made (tape_of a.kept) none a.put, a.denotes)
+member_made Sub m fresh empty a = (a.kept, made_whole fresh m.made (tape_of a.kept) empty a.put, a.denotes)
 
 pub member_more : (Sub : Json → Value → Type 0) (ms ns : List Member) (m : Member) (fresh : JsonTape) (js : List Json) →
     ns ≡ ms ++ m ∷ [] → map document_of ms ≡ js → All (IsMember Sub) ms → made_marks fresh ≡ [] →
     Makes (Sub (document_of m)) fresh m.made → (map document_of ns ≡ js ++ document_of m ∷ []) × All (IsMember Sub) ns
-member_more Sub ms ns m fresh js e is all none made = (
+member_more Sub ms ns m fresh js e is all empty made = (
   ap (λ (l : List Member). map document_of l) e ∙ map-append document_of ms (m ∷ []) ∙ ap (λ (l : List Json). l ++ document_of m ∷ []) is,
-  subst (All (IsMember Sub)) (sym e) (All-push (IsMember Sub) ms m all (member_made Sub m fresh none made)),
+  subst (All (IsMember Sub)) (sym e) (All-push (IsMember Sub) ms m all (member_made Sub m fresh empty made)),
 )
 
-pub taken_more : {X : Type 0} (f : X → Json) (xs : List X) (i : ℕ) (d : X) → i < length xs →
-    map f (take (i + 1) xs) ≡ map f (take i xs) ++ f (get_or xs i d) ∷ []
-taken_more {X} f xs i d lt = ap (λ (l : List X). map f l) (take_more xs i d lt) ∙ map-append f (take i xs) (get_or xs i d ∷ [])
+pub member_next : (Sub : Json → Value → Type 0) (ms : List Member) (i : ℕ) (m d : Member) → m ≡ get_or ms i d → i < length ms →
+    All (IsMember Sub) ms → IsMember Sub m
+member_next Sub ms i m d is lt all = subst (IsMember Sub) (sym is) (all i d lt)
+
+pub taken_more : {X : Type 0} (f : X → Json) (xs : List X) (i : ℕ) (x d : X) → x ≡ get_or xs i d → i < length xs →
+    map f (take (i + 1) xs) ≡ map f (take i xs) ++ f x ∷ []
+taken_more {X} f xs i x d is lt = ap (λ (l : List X). map f l) (take_more xs i d lt)
+    ∙ map-append f (take i xs) (get_or xs i d ∷ []) ∙ ap (λ (y : X). map f (take i xs) ++ f y ∷ []) (sym is)
 
 pub listed : (js : List Json) → listed_items (items_of js) ≡ js
 listed [] = refl

@@ -13,7 +13,7 @@ use Rattle.asn1_json.specs.Made.{tape_of_value}
 use Rattle.asn1_json.specs.Outcomes.{Appends, DenotesSimple, Makes, Reads}
 use Rattle.asn1_json.specs.Tokens.{Types}
 use Rattle.asn1_json.specs.Types.{labels_at}
-use Rattle.std.specs.Prelude.{Some}
+use Rattle.std.specs.Prelude.{Some, None}
 use Rattle.asn1_json.specs.declared.reading.made.JsonTape.{JsonTape}
 use Rattle.asn1_json.specs.declared.reading.trail.Fault.{Fault}
 
@@ -49,5 +49,9 @@ simple_is_kind types depth Sub at (kinds.Choice arms) j v d = absurd d.2
 simple_is_kind types depth Sub at (kinds.Explicit t) j v d = absurd d.2
 simple_is_kind types depth Sub at (kinds.Within t lower upper) j v d = absurd d.2
 
-pub some_of : {X : Type 0} (P : X → Type 0) (o : Option X) (x : X) → o ≡ Some x → MatchOption o (Unit {0}) P → P x
-some_of P o x e m = subst (λ f. MatchOption f (Unit {0}) P) e m
+-- what is said of an option, where it is known
+pub some_is : {X N : Type 0} {P : X → Type 0} (o : Option X) (x : X) → o ≡ Some x → MatchOption o N P → P x
+some_is {X} {N} {P} o x e m = subst (λ (f : Option X). MatchOption f N P) e m
+
+pub none_is : {X N : Type 0} {P : X → Type 0} (o : Option X) → o ≡ None → MatchOption o N P → N
+none_is {X} {N} {P} o e m = subst (λ (f : Option X). MatchOption f N P) e m

@@ -39,16 +39,18 @@ module _ {A : Type 0} (name : List ℕ) (members : List (Bor (List ℕ) × Value
       ∙ last_member name (map h (take i members)) (h (get_or members i d))
 
   -- it has the name
-  pub member_here : bytes_eq (get_or members i d).0.now name ≡ true →
-      get_member name (members_view (take (i + 1) members)) ≡ Some (value_view (get_or members i d).1)
-  member_here e = more_members
-      ∙ ap (λ (b : Bool). later_or (cond b (Some (value_view (get_or members i d).1)) None) (get_member name (members_view (take i members)))) e
+  pub member_here : (x : Bor (List ℕ) × Value A) → x ≡ get_or members i d → bytes_eq x.0.now name ≡ true →
+      get_member name (members_view (take (i + 1) members)) ≡ Some (value_view x.1)
+  member_here x is e = more_members
+      ∙ ap (λ (m : Bor (List ℕ) × Value A). later_or (cond (bytes_eq m.0.now name) (Some (value_view m.1)) None) (get_member name (members_view (take i members)))) (sym is)
+      ∙ ap (λ (b : Bool). later_or (cond b (Some (value_view x.1)) None) (get_member name (members_view (take i members)))) e
 
   -- it has another
-  pub member_other : bytes_eq (get_or members i d).0.now name ≡ false →
+  pub member_other : (x : Bor (List ℕ) × Value A) → x ≡ get_or members i d → bytes_eq x.0.now name ≡ false →
       get_member name (members_view (take (i + 1) members)) ≡ get_member name (members_view (take i members))
-  member_other e = more_members
-      ∙ ap (λ (b : Bool). later_or (cond b (Some (value_view (get_or members i d).1)) None) (get_member name (members_view (take i members)))) e
+  member_other x is e = more_members
+      ∙ ap (λ (m : Bor (List ℕ) × Value A). later_or (cond (bytes_eq m.0.now name) (Some (value_view m.1)) None) (get_member name (members_view (take i members)))) (sym is)
+      ∙ ap (λ (b : Bool). later_or (cond b (Some (value_view x.1)) None) (get_member name (members_view (take i members)))) e
 
 module _ (types : Types) (choice : ℕ) (key : List ℕ) (arms : List ℕ) (i : ℕ) (lt : i < length arms) where
   -- the arm has the name

@@ -1,6 +1,6 @@
 -- Rows that are made part by part.
-use Rattle.std.proofs.Common.{◌≡◌, ◌∙◌, ap, sym, refl, subst, ℕ, suc, ◌+◌, ◌≤◌, List, [], ◌∷◌, ◌++◌, append_assoc, append-nil, length, drop, Option, Some, None, codes, arith}
-use Rattle.std.proofs.lemmas.List.{drop_all}
+use Rattle.std.proofs.Common.{◌≡◌, ◌∙◌, ap, sym, refl, subst, ℕ, suc, ◌+◌, ◌≤◌, List, [], ◌∷◌, ◌++◌, append_assoc, append-nil, length, drop, get_or, ◌<◌, Option, Some, None, codes, arith}
+use Rattle.std.proofs.lemmas.List.{drop_all, drop_more}
 use Rattle.json.specs.Json.{Json, Members}
 use Rattle.json.specs.Find.{get_member}
 use Rattle.json.specs.Value.{items_of}
@@ -21,7 +21,7 @@ use Rattle.asn1_json.specs.Outcomes.{Appends, DenoteFirst, DenotesOnce, Makes, M
 use Rattle.asn1_json.proofs.Appended.{appends_nothing, appends_both, made_whole}
 
 -- rows, one behind the other
-behind : KeptRow → KeptRow → KeptRow
+abbrev pub behind : KeptRow → KeptRow → KeptRow
 behind kept_none b = b
 behind (kept_absent a) b = kept_absent (behind a b)
 behind (kept_more k a) b = kept_more k (behind a b)
@@ -100,10 +100,10 @@ pub row_made : (D : Values → Type 0) (E : Value → Type 0) (fresh inner old n
     MakesRow D fresh inner →
     ((ms : List Mark) → made_marks inner ≡ ms → Appends old new (between (begin_mark (length ms)) ms (end_mark (length ms)))) →
     ((vs : Values) → D vs → E (row vs)) → Makes E old new
-row_made D E fresh inner old new none m put e = record {
+row_made D E fresh inner old new empty m put e = record {
   kept = kept_row m.kept;
   denotes = e (values_of m.kept) m.denotes;
-  put = put (tapes_of m.kept) (made_whole fresh inner (tapes_of m.kept) none m.put);
+  put = put (tapes_of m.kept) (made_whole fresh inner (tapes_of m.kept) empty m.put);
 }
 
 -- a value of an arm ends
@@ -157,11 +157,13 @@ module _ (types : Types) (depth : ℕ) (Sub : ℕ → Json → Value → Type 0)
   pub fields_begun : (tape : JsonTape) → MakesRow (DenoteFirst types depth Sub at unknown ms fs 0) tape tape
   fields_begun tape = row_of_none (DenoteFirst types depth Sub at unknown ms fs 0) tape (λ ws d. d)
 
-  pub field_made : (place : ℕ) (f : Field) (old mid new : JsonTape) → drop place fs ≡ f ∷ drop (place + 1) fs →
+  pub field_made : (place : ℕ) (f d : Field) (old mid new : JsonTape) → f ≡ get_or fs place d → place < length fs →
       MakesRow (DenoteFirst types depth Sub at unknown ms fs place) old mid →
       MakesRow (DenotesOnce types depth Sub f (get_member (name_of_field types (Some at) place) ms)) mid new →
       MakesRow (DenoteFirst types depth Sub at unknown ms fs (place + 1)) old new
-  field_made place f old mid new is a b =
+  field_made place f d old mid new here lt a b =
+      let is : drop place fs ≡ f ∷ drop (place + 1) fs =
+      drop_more fs place d lt ∙ ap (λ (g : Field). g ∷ drop (place + 1) fs) (sym here) in
       rows_joined (DenoteFirst types depth Sub at unknown ms fs place)
       (DenotesOnce types depth Sub f (get_member (name_of_field types (Some at) place) ms))
       (DenoteFirst types depth Sub at unknown ms fs (place + 1)) old mid new a b (λ vs ws d e. first_more place f vs ws is d e)

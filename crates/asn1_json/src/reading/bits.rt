@@ -1,5 +1,7 @@
 //! Bit strings, from objects of JSON.
-ghost use Rattle.std.specs.Prelude.{◌≡◌, ◌-◌, ◌*◌, IfOk, MatchOption, Ok, length, take, true};
+ghost use Rattle.std.specs.Prelude.{◌≡◌, ◌-◌, ◌*◌, IfOk, IfSome, MatchOption, Some, length, take, true};
+ghost use Rattle.json.specs.Find.{get_member};
+ghost use Rattle.json.specs.Json.{number, string};
 ghost use Rattle.json.specs.Value.{members_view};
 ghost use Rattle.asn1_words.specs.Words.{number_text};
 ghost use Rattle.asn1_schema.specs.Grammar.{bits_in};
@@ -35,13 +37,13 @@ fn is_count(alloc: Global, text: &str, count: usize) -> Result<bool, AllocError>
 }
 
 /// How many of so many bits are unused, where the number of the others is given in decimals: 7 at most.
-fn unused_bits(alloc: Global, number: &str, bits: usize) -> Result<Option<u8>, AllocError>
+fn unused_bits(alloc: Global, text: &str, bits: usize) -> Result<Option<u8>, AllocError>
     ensures { IfOk result (λ found. MatchOption found (Unit {0})
-        (λ unused. number.now ≡ number_text (bits - unused))) }
+        (λ unused. text.now ≡ number_text (bits - unused))) }
 {
     let most = if bits == 0 { 1 } else { 8 };
     for unused in 0..most {
-        if is_count(alloc, number, bits.saturating_sub(usize::from(unused)))? {
+        if is_count(alloc, text, bits.saturating_sub(usize::from(unused)))? {
             return Ok(Some(unused));
         }
     }
@@ -68,21 +70,49 @@ fn are_filled(alloc: Global, unused: u8, octets: &[u8]) -> Result<bool, AllocErr
 
 /// How many bits at the end of octets are unused, where the number of the others is given in decimals, and zeros fill
 /// the last octet.
-fn unused_in(alloc: Global, number: &str, octets: &[u8]) -> Result<Option<u8>, AllocError>
+fn unused_in(alloc: Global, text: &str, octets: &[u8]) -> Result<Option<u8>, AllocError>
     ensures number { IfOk result (λ found. MatchOption found (Unit {0})
-        (λ unused. number.now ≡ number_text (8 * length octets.now - unused))) }
+        (λ unused. text.now ≡ number_text (8 * length octets.now - unused))) }
     ensures filled { IfOk result (λ found. MatchOption found (Unit {0})
         (λ unused. octets.now ≡
         spec_octets (take (8 * length octets.now - unused) (bits_in octets.now)))) }
 {
     let all = used_bits(alloc, 0, octets)?;
-    let Some(unused) = unused_bits(alloc, number, all.len())? else {
+    let Some(unused) = unused_bits(alloc, text, all.len())? else {
         return Ok(None);
     };
     if are_filled(alloc, unused, octets)? {
         Ok(Some(unused))
     } else {
         Ok(None)
+    }
+}
+
+/// The string that the member with a name is.
+fn string_member<'a>(members: &[(&'a str, Value<'a>)], name: &str) -> Option<&'a str>
+    ensures { IfSome result (λ text.
+        get_member name.now (members_view members.now) ≡ Some (string text.now)) }
+{
+    let Some((_, value)) = member_named(members, name) else {
+        return None;
+    };
+    match value {
+        Value::String(text) => Some(*text),
+        _ => None,
+    }
+}
+
+/// The text of the number that the member with a name is.
+fn number_member<'a>(members: &[(&'a str, Value<'a>)], name: &str) -> Option<&'a str>
+    ensures { IfSome result (λ text.
+        get_member name.now (members_view members.now) ≡ Some (number text.now)) }
+{
+    let Some((_, value)) = member_named(members, name) else {
+        return None;
+    };
+    match value {
+        Value::Number(text) => Some(*text),
+        _ => None,
     }
 }
 
@@ -99,16 +129,16 @@ pub(super) fn bits_of<'a>(
     if members.len() != 2 {
         return Ok(None);
     }
-    let Some((_, Value::String(value))) = member_named(members, "value") else {
+    let Some(text) = string_member(members, "value") else {
         return Ok(None);
     };
-    let Some((_, Value::Number(length))) = member_named(members, "length") else {
+    let Some(count) = number_member(members, "length") else {
         return Ok(None);
     };
-    let Some(octets) = hexadecimal(alloc, value)? else {
+    let Some(octets) = hexadecimal(alloc, text)? else {
         return Ok(None);
     };
-    match unused_in(alloc, length, &octets)? {
+    match unused_in(alloc, count, &octets)? {
         Some(unused) => Ok(Some((unused, octets))),
         None => Ok(None),
     }

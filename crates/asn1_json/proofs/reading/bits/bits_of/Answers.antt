@@ -1,16 +1,12 @@
-use Rattle.std.proofs.Common.{◌≡◌, ◌∙◌, ap, sym, refl, subst, ℕ, ℤ, Bool, ◌*◌, ◌-◌, List, [], length, take, Option, Some, MatchOption, Ok, encode_utf8_all}
-use Rattle.hex.specs.Hex.{decode_of}
-use Rattle.std.proofs.Common.{codes, ◌≤◌, arith}
+use Rattle.std.proofs.Common.{◌≡◌, ◌∙◌, ap, sym, subst, ℕ, ◌*◌, ◌-◌, ◌≤◌, List, length, take, Some, Ok, codes, arith}
 use Rattle.std.proofs.lemmas.List.{length-take-le}
-use Rattle.json.specs.Json.{Json, string, number}
-use Rattle.json.specs.Find.{get_member}
-use Rattle.json.specs.Value.{members_of, members_view, value_view}
+use Rattle.json.specs.Json.{number}
+use Rattle.json.specs.Value.{members_view}
 use Rattle.asn1_words.specs.Words.{number_text}
 use Rattle.asn1_schema.specs.Grammar.{bits_in}
 use Rattle.asn1_schema.proofs.BitContents.{bits_length}
-use Rattle.asn1_json.specs.DenotedLeaves.{IsHexadecimal, count_members}
 use Rattle.asn1_json.specs.Leaves.{octets_of_bits}
-use Rattle.asn1_json.proofs.MadeLeaves.{some_of}
+use Rattle.asn1_json.proofs.MadeLeaves.{some_is}
 use Rattle.asn1_json.proofs.Members.{members_counted}
 use Rattle.asn1_json.proofs.reading.bits.bits_of.Goals as goal
 
@@ -18,23 +14,19 @@ pub returns-in-Some-2 : goal.returns-in-Some-2
 returns-in-Some-2 c =
     let o = c.in-Some.octets.items in
     let u = c.in-Some-2.unused in
-    let s = c.in-Some-default-String.value.now in
     let bs = take (8 * length o - u) (bits_in o) in
-    let hex = some_of (λ found. IsHexadecimal s found.items) c.in_ok-octets.field-0 c.in-Some.octets c.in-Some.is c.in_ok-octets.ensures in
-    let said = some_of (λ unused. c.in-Some-default-Number.length.now ≡ number_text (8 * length c.deref.result.now - unused))
-    c.in_ok-unused.field-0 u c.in-Some-2.is c.in_ok-unused.ensures.number in
-    let filled = some_of (λ unused. c.deref.result.now ≡ octets_of_bits (take (8 * length c.deref.result.now - unused) (bits_in c.deref.result.now)))
-    c.in_ok-unused.field-0 u c.in-Some-2.is c.in_ok-unused.ensures.filled in
+    let hex = some_is c.in_ok-octets.field-0 c.in-Some.octets c.in-Some.is c.in_ok-octets.ensures in
+    let said = some_is c.in_ok-unused.field-0 u c.in-Some-2.is c.in_ok-unused.ensures.number in
+    let filled = some_is c.in_ok-unused.field-0 u c.in-Some-2.is c.in_ok-unused.ensures.filled in
     let full : o ≡ octets_of_bits bs = subst (λ (x : List ℕ). x ≡ octets_of_bits (take (8 * length x - u) (bits_in x))) c.deref.ensures.value filled in
     let all : length (bits_in o) ≡ 8 * length o = bits_length o in
     let few : 8 * length o - u ≤ length (bits_in o) = omega (arith, all) in
     let count : length bs ≡ 8 * length o - u = length-take-le (8 * length o - u) (bits_in o) few in
     let two : length c.args.members.now ≡ 2 = grind (arith, c.if-members-ne2.false) in
     record {
-      text = s;
-      value = c.in-Some-default-String.ensures ∙ ap (λ v. Some (value_view v)) c.in-Some-default-String.field-0-1-is;
+      text = ?text;
+      value = ?value;
       octets = hex ∙ ap Ok full;
-      length = c.in-Some-default-Number.ensures ∙ ap (λ v. Some (value_view v)) c.in-Some-default-Number.field-0-1-is
-          ∙ ap (λ (t : List ℕ). Some (number t)) (said ∙ ap (λ (x : List ℕ). number_text (8 * length x - u)) c.deref.ensures.value ∙ ap number_text (sym count));
+      length = ?length ∙ ap (λ (t : List ℕ). Some (number t)) (said ∙ ap (λ (x : List ℕ). number_text (8 * length x - u)) c.deref.ensures.value ∙ ap number_text (sym count));
       both = members_counted c.args.members.now ∙ two;
     }

@@ -10,7 +10,7 @@ use Rattle.asn1_schema.specs.Grammar.{bits_in}
 use Rattle.asn1_schema.specs.Values.{boolean, null, integer, enumerated, bits, octets, identifier, text, time, any}
 use Rattle.asn1_json.specs.DenotedLeaves.{DenotesBits, DenotesIdentifier, DenotesInteger, DenotesListed, DenotesText, IsHexadecimal}
 use Rattle.asn1_json.specs.Types.{labels_at}
-use Rattle.asn1_json.proofs.MadeLeaves.{put_leaf, some_of}
+use Rattle.asn1_json.proofs.MadeLeaves.{put_leaf, some_is}
 use Rattle.asn1_json.proofs.reading.leaf.element_of.Goals as goal
 
 pub returns-then-branch : goal.returns-then-branch

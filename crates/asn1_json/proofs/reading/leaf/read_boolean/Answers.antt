@@ -10,10 +10,12 @@ use Rattle.asn1_schema.specs.Grammar.{bits_in}
 use Rattle.asn1_schema.specs.Values.{boolean, null, integer, enumerated, bits, octets, identifier, text, time, any}
 use Rattle.asn1_json.specs.DenotedLeaves.{DenotesBits, DenotesIdentifier, DenotesInteger, DenotesListed, DenotesText, IsHexadecimal}
 use Rattle.asn1_json.specs.Types.{labels_at}
-use Rattle.asn1_json.proofs.MadeLeaves.{put_leaf, some_of}
+use Rattle.asn1_json.proofs.Views.{null_view, truth_view, number_view}
+use Rattle.json.proofs.Trees.{view-Object}
+use Rattle.asn1_json.proofs.MadeLeaves.{put_leaf, some_is}
 use Rattle.asn1_json.proofs.reading.leaf.read_boolean.Goals as goal
 
 pub returns-in-Bool : goal.returns-in-Bool
 returns-in-Bool c =
     put_leaf (boolean c.in-Bool.truth) [] kinds.Boolean (value_view c.args.value.now) _ _ _ c.put.result
-    (c.put.ensures (boolean c.in-Bool.truth) refl) (c.in-Bool.truth, ap value_view c.in-Bool.is, refl)
+    (c.put.ensures (boolean c.in-Bool.truth) refl) (c.in-Bool.truth, ap value_view c.in-Bool.is ∙ truth_view c.in-Bool.truth, refl)

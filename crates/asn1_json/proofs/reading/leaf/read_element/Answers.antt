@@ -10,7 +10,7 @@ use Rattle.asn1_schema.specs.Grammar.{bits_in}
 use Rattle.asn1_schema.specs.Values.{boolean, null, integer, enumerated, bits, octets, identifier, text, time, any}
 use Rattle.asn1_json.specs.DenotedLeaves.{DenotesBits, DenotesIdentifier, DenotesInteger, DenotesListed, DenotesText, IsHexadecimal}
 use Rattle.asn1_json.specs.Types.{labels_at}
-use Rattle.asn1_json.proofs.MadeLeaves.{put_leaf, some_of}
+use Rattle.asn1_json.proofs.MadeLeaves.{put_leaf, some_is}
 use Rattle.asn1_json.specs.Outcomes.{IsElementItem}
 use Rattle.asn1_json.proofs.reading.leaf.read_element.Goals as goal
 
@@ -18,6 +18,6 @@ pub returns-in-Some-2 : goal.returns-in-Some-2
 returns-in-Some-2 c =
     let s = c.args.text.now in
     let e = subst (λ f. IfSome f (IsElementItem c.deref.result.now)) c.in-Some-2.is c.in_ok-item.ensures in
-    let said = some_of (λ content. IsHexadecimal s content.items) c.in_ok-octets.field-0 c.in-Some.octets c.in-Some.is c.in_ok-octets.ensures in
+    let said = some_is c.in_ok-octets.field-0 c.in-Some.octets c.in-Some.is c.in_ok-octets.ensures in
     put_leaf (any e.0 e.1) [] kinds.Any (string s) _ _ _ c.put.result (c.put.ensures (any e.0 e.1) e.4)
     (s, e.1, e.0, refl, (e.2, subst (IsHexadecimal s) (sym c.deref.ensures.value ∙ e.3) said), refl)

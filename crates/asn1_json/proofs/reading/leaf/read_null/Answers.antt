@@ -10,9 +10,11 @@ use Rattle.asn1_schema.specs.Grammar.{bits_in}
 use Rattle.asn1_schema.specs.Values.{boolean, null, integer, enumerated, bits, octets, identifier, text, time, any}
 use Rattle.asn1_json.specs.DenotedLeaves.{DenotesBits, DenotesIdentifier, DenotesInteger, DenotesListed, DenotesText, IsHexadecimal}
 use Rattle.asn1_json.specs.Types.{labels_at}
-use Rattle.asn1_json.proofs.MadeLeaves.{put_leaf, some_of}
+use Rattle.asn1_json.proofs.Views.{null_view, truth_view, number_view}
+use Rattle.json.proofs.Trees.{view-Object}
+use Rattle.asn1_json.proofs.MadeLeaves.{put_leaf, some_is}
 use Rattle.asn1_json.proofs.reading.leaf.read_null.Goals as goal
 
 pub returns-in-Null : goal.returns-in-Null
 returns-in-Null c =
-    put_leaf null [] kinds.Null (value_view c.args.value.now) _ _ _ c.put.result (c.put.ensures null refl) (ap value_view c.in-Null.is, refl)
+    put_leaf null [] kinds.Null (value_view c.args.value.now) _ _ _ c.put.result (c.put.ensures null refl) (ap value_view c.in-Null.is ∙ null_view, refl)

@@ -10,12 +10,12 @@ use Rattle.asn1_schema.specs.Grammar.{bits_in}
 use Rattle.asn1_schema.specs.Values.{boolean, null, integer, enumerated, bits, octets, identifier, text, time, any}
 use Rattle.asn1_json.specs.DenotedLeaves.{DenotesBits, DenotesIdentifier, DenotesInteger, DenotesListed, DenotesText, IsHexadecimal}
 use Rattle.asn1_json.specs.Types.{labels_at}
-use Rattle.asn1_json.proofs.MadeLeaves.{put_leaf, some_of}
+use Rattle.asn1_json.proofs.MadeLeaves.{put_leaf, some_is}
 use Rattle.asn1_json.proofs.reading.leaf.read_octets.Goals as goal
 
 pub returns-in-Some : goal.returns-in-Some
 returns-in-Some c =
     let o = c.deref.result.now in
-    let said = some_of (λ content. IsHexadecimal c.args.text.now content.items) c.in_ok-octets.field-0 c.in-Some.octets c.in-Some.is c.in_ok-octets.ensures in
+    let said = some_is c.in_ok-octets.field-0 c.in-Some.octets c.in-Some.is c.in_ok-octets.ensures in
     put_leaf (octets o) [] kinds.Octets (string c.args.text.now) _ _ _ c.put.result (c.put.ensures (octets o) refl)
     (c.args.text.now, o, refl, subst (IsHexadecimal c.args.text.now) (sym c.deref.ensures.value) said, refl)

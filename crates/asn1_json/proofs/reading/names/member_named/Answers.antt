@@ -14,9 +14,9 @@ loop-place-preserved c =
     elim c.if-eq.branch [
       | then-eq w ↦ subst (λ o. MatchOption o (get_member name (members_view (take (i + 1) members)) ≡ None)
           (λ found. get_member name (members_view (take (i + 1) members)) ≡ Some (value_view found.1.now)))
-          (sym w.found-is) (member_here name members i _ lt (sym c.eq.ensures ∙ w.if-eq.true))
+          (sym w.found-is) (member_here name members i _ lt c.index-members-place.result c.index-members-place.is (sym c.eq.ensures ∙ w.if-eq.true))
       | else-eq w ↦ subst (λ o. MatchOption o (get_member name (members_view (take (i + 1) members)) ≡ None)
           (λ found. get_member name (members_view (take (i + 1) members)) ≡ Some (value_view found.1.now)))
           (sym w.found-is) (subst (λ g. MatchOption c.loop-place.found (g ≡ None) (λ found. g ≡ Some (value_view found.1.now)))
-          (sym (member_other name members i _ lt (sym c.eq.ensures ∙ w.if-eq.false))) c.loop-place.invariant)
+          (sym (member_other name members i _ lt c.index-members-place.result c.index-members-place.is (sym c.eq.ensures ∙ w.if-eq.false))) c.loop-place.invariant)
     ]

@@ -12,7 +12,7 @@ use Rattle.asn1_json.proofs.reading.values.leave_out.Goals as goal
 pub returns-in_ok-push-in-Optional : goal.returns-in_ok-push-in-Optional
 returns-in_ok-push-in-Optional c =
     let B = Body der c.args.by.types.table.now c.args.by.depth c.args.field.now.of in
-    row_of_absent (LeftOutOnce c.args.by.types.table.now c.args.by.depth c.args.field.now) c.args.made.now c.push.new.self c.in_ok-push.ensures
+    row_of_absent (LeftOutOnce c.args.by.types.table.now c.args.by.depth c.args.field.now) c.args.made.now c.push.new.self c.in_ok-push-in-Optional.ensures
     (subst (λ (p : Presence). LeftOut der B p (absent none) (λ rest. rest ≡ none)) (sym c.in-Optional.is) refl)
 
 pub returns-in-Default : goal.returns-in-Default
