@@ -50,8 +50,8 @@ simple_is_kind types depth Sub at (kinds.Explicit t) j v d = absurd d.2
 simple_is_kind types depth Sub at (kinds.Within t lower upper) j v d = absurd d.2
 
 -- what is said of an option, where it is known
-pub some_is : {X N : Type 0} {P : X → Type 0} (o : Option X) (x : X) → o ≡ Some x → MatchOption o N P → P x
-some_is {X} {N} {P} o x e m = subst (λ (f : Option X). MatchOption f N P) e m
+pub some_is : {X : Type 0} (N : Type 0) (P : X → Type 0) (o : Option X) (x : X) → o ≡ Some x → MatchOption o N P → P x
+some_is {X} N P o x e m = subst (λ (f : Option X). MatchOption f N P) e m
 
-pub none_is : {X N : Type 0} {P : X → Type 0} (o : Option X) → o ≡ None → MatchOption o N P → N
-none_is {X} {N} {P} o e m = subst (λ (f : Option X). MatchOption f N P) e m
+pub none_is : {X : Type 0} (N : Type 0) (P : X → Type 0) (o : Option X) → o ≡ None → MatchOption o N P → N
+none_is {X} N P o e m = subst (λ (f : Option X). MatchOption f N P) e m

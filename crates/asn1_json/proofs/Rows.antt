@@ -157,13 +157,15 @@ module _ (types : Types) (depth : ℕ) (Sub : ℕ → Json → Value → Type 0)
   pub fields_begun : (tape : JsonTape) → MakesRow (DenoteFirst types depth Sub at unknown ms fs 0) tape tape
   fields_begun tape = row_of_none (DenoteFirst types depth Sub at unknown ms fs 0) tape (λ ws d. d)
 
-  pub field_made : (place : ℕ) (f d : Field) (old mid new : JsonTape) → f ≡ get_or fs place d → place < length fs →
-      MakesRow (DenoteFirst types depth Sub at unknown ms fs place) old mid →
+  pub field_made : (place : ℕ) (gs : List Field) (f d : Field) (old mid new : JsonTape) → gs ≡ fs → f ≡ get_or gs place d →
+      place < length gs → MakesRow (DenoteFirst types depth Sub at unknown ms fs place) old mid →
       MakesRow (DenotesOnce types depth Sub f (get_member (name_of_field types (Some at) place) ms)) mid new →
       MakesRow (DenoteFirst types depth Sub at unknown ms fs (place + 1)) old new
-  field_made place f d old mid new here lt a b =
+  field_made place gs f d old mid new same here lt a b =
+      let cut : drop place gs ≡ f ∷ drop (place + 1) gs =
+      drop_more gs place d lt ∙ ap (λ (g : Field). g ∷ drop (place + 1) gs) (sym here) in
       let is : drop place fs ≡ f ∷ drop (place + 1) fs =
-      drop_more fs place d lt ∙ ap (λ (g : Field). g ∷ drop (place + 1) fs) (sym here) in
+      subst (λ (l : List Field). drop place l ≡ f ∷ drop (place + 1) l) same cut in
       rows_joined (DenoteFirst types depth Sub at unknown ms fs place)
       (DenotesOnce types depth Sub f (get_member (name_of_field types (Some at) place) ms))
       (DenoteFirst types depth Sub at unknown ms fs (place + 1)) old mid new a b (λ vs ws d e. first_more place f vs ws is d e)

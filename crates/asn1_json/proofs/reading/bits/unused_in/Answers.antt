@@ -15,5 +15,5 @@ returns-then-branch-clause-number c =
     let count = ap (λ (l : List Bool). length l) (c.in_ok-all.ensures ∙ take_all (8 * length o - 0) (bits_in o) le) ∙ all in
     let bits : c.len.result ≡ 8 * length o = omega (arith, count, c.len.ensures, c.in_ok-all.all.ok.0) in
     let said : c.args.text.now ≡ number_text (c.len.result - u) =
-    some_is c.in_ok-unused.field-0 u c.in-Some.is c.in_ok-unused.ensures in
+    some_is _ _ c.in_ok-unused.field-0 u c.in-Some.is c.in_ok-unused.ensures in
     said ∙ ap (λ (n : ℕ). number_text (n - u)) bits

@@ -21,7 +21,7 @@ returns-in-Some c = λ named.
     let bs : List ℕ → List Bool = λ o. take (8 * length o - u) (bits_in o) in
     let l = bits (bs c.deref-in-Some.result.now) in
     let ms = members_view c.deref.result.now in
-    let said = some_is
+    let said = some_is _ _
     c.in_ok-unused.field-0 (u, c.in-Some.octets) c.in-Some.is c.in_ok-unused.ensures in
     put_leaf l [] (kinds.Bits named) (value_view c.args.value.now) _ _ _ c.put.result (c.put.ensures l refl) (
       ms,

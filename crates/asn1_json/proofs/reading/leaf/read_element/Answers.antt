@@ -18,6 +18,6 @@ pub returns-in-Some-2 : goal.returns-in-Some-2
 returns-in-Some-2 c =
     let s = c.args.text.now in
     let e = subst (λ f. IfSome f (IsElementItem c.deref.result.now)) c.in-Some-2.is c.in_ok-item.ensures in
-    let said = some_is c.in_ok-octets.field-0 c.in-Some.octets c.in-Some.is c.in_ok-octets.ensures in
+    let said = some_is _ _ c.in_ok-octets.field-0 c.in-Some.octets c.in-Some.is c.in_ok-octets.ensures in
     put_leaf (any e.0 e.1) [] kinds.Any (string s) _ _ _ c.put.result (c.put.ensures (any e.0 e.1) e.4)
     (s, e.1, e.0, refl, (e.2, subst (IsHexadecimal s) (sym c.deref.ensures.value ∙ e.3) said), refl)

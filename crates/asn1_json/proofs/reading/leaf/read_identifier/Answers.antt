@@ -11,6 +11,6 @@ returns-in-Some c =
     let o = c.deref.result.now in
     let s = c.args.text.now in
     let r = c.args.relative in
-    let said = some_is c.in_ok-content.field-0 c.in-Some.content c.in-Some.is c.in_ok-content.ensures in
+    let said = some_is _ _ c.in_ok-content.field-0 c.in-Some.content c.in-Some.is c.in_ok-content.ensures in
     put_leaf (identifier r o) [] (kinds.Identifier r) (string s) _ _ _ c.put.result (c.put.ensures (identifier r o) refl)
     (s, o, refl, subst (DenotesIdentifier r s) (sym c.deref.ensures.value) said, refl)

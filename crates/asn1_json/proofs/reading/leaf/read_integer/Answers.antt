@@ -18,7 +18,7 @@ use Rattle.asn1_json.proofs.reading.leaf.read_integer.Goals as goal
 pub returns-in-Some : goal.returns-in-Some
 returns-in-Some c =
     let n : ℤ = twos_complement_value c.deref.result.now in
-    let said = some_is
+    let said = some_is _ _
     c.in_ok-content.field-0 c.in-Some.content c.in-Some.is c.in_ok-content.ensures in
     let same = said ∙ ap (λ (o : List ℕ). integer_text (twos_complement_value o)) (sym c.deref.ensures.value) in
     put_leaf (integer n) [] kinds.Integer (value_view c.args.value.now) _ _ _ c.put.result (c.put.ensures (integer n) refl)

@@ -19,7 +19,7 @@ pub returns-in-Some : goal.returns-in-Some
 returns-in-Some c = λ numbers extensible.
     let labels = labels_at c.args.by.types.names.now (Some c.args.at) in
     let n : ℤ = twos_complement_value c.deref.result.now in
-    let said = some_is
+    let said = some_is _ _
     c.in_ok-content-in-Number.field-0 c.in-Some.content c.in-Some.is c.in_ok-content-in-Number.ensures in
     let same = said ∙ ap (λ (o : List ℕ). integer_text (twos_complement_value o)) (sym c.deref.ensures.value) in
     put_leaf (enumerated n) labels (kinds.Enumerated numbers extensible) (value_view c.args.value.now) _ _ _ c.put.result (c.put.ensures (enumerated n) refl)

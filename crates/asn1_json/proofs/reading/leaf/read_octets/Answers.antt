@@ -16,6 +16,6 @@ use Rattle.asn1_json.proofs.reading.leaf.read_octets.Goals as goal
 pub returns-in-Some : goal.returns-in-Some
 returns-in-Some c =
     let o = c.deref.result.now in
-    let said = some_is c.in_ok-octets.field-0 c.in-Some.octets c.in-Some.is c.in_ok-octets.ensures in
+    let said = some_is _ _ c.in_ok-octets.field-0 c.in-Some.octets c.in-Some.is c.in_ok-octets.ensures in
     put_leaf (octets o) [] kinds.Octets (string c.args.text.now) _ _ _ c.put.result (c.put.ensures (octets o) refl)
     (c.args.text.now, o, refl, subst (IsHexadecimal c.args.text.now) (sym c.deref.ensures.value) said, refl)

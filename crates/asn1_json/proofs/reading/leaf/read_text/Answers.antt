@@ -17,6 +17,6 @@ pub returns-in-Some : goal.returns-in-Some
 returns-in-Some c =
     let o = c.deref.result.now in
     let s = c.args.text.now in
-    let said = some_is c.in_ok-octets.field-0 c.in-Some.octets c.in-Some.is c.in_ok-octets.ensures in
+    let said = some_is _ _ c.in_ok-octets.field-0 c.in-Some.octets c.in-Some.is c.in_ok-octets.ensures in
     put_leaf (text c.args.kind o) [] (kinds.Text c.args.kind) (string s) _ _ _ c.put.result (c.put.ensures (text c.args.kind o) refl)
     (s, o, refl, subst (DenotesText c.args.kind s) (sym c.deref.ensures.value) said, refl)

@@ -17,7 +17,7 @@ pub returns-in-Some : goal.returns-in-Some
 returns-in-Some c =
     let o = c.deref.result.now in
     let s = c.args.text.now in
-    let are = some_is c.in_ok-octets.field-0 c.in-Some.octets c.in-Some.is c.in_ok-octets.ensures.octets in
-    let said = some_is c.in_ok-octets.field-0 c.in-Some.octets c.in-Some.is c.in_ok-octets.ensures.text in
+    let are = some_is _ _ c.in_ok-octets.field-0 c.in-Some.octets c.in-Some.is c.in_ok-octets.ensures.octets in
+    let said = some_is _ _ c.in_ok-octets.field-0 c.in-Some.octets c.in-Some.is c.in_ok-octets.ensures.text in
     put_leaf (time c.args.kind o) [] (kinds.Time c.args.kind) (string s) _ _ _ c.put.result (c.put.ensures (time c.args.kind o) refl)
     (s, o, refl, subst IsOctets (sym c.deref.ensures.value) are, said ∙ ap encode_utf8_all (sym c.deref.ensures.value), refl)

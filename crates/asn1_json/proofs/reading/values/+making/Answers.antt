@@ -68,7 +68,7 @@ read_choice-returns t c =
       v,
       ap value_view c.in-Object.is ∙ view-Object c.in-Object.members ∙ ap (λ l. object (members_view l)) (sym c.as_slice.ensures.value) ∙ ap object c.in-Some.ensures,
       refl,
-      some_is c.in_ok-arm.field-0 arm c.in-Some-2.is c.in_ok-arm.ensures,
+      some_is _ _ c.in_ok-arm.field-0 arm c.in-Some-2.is c.in_ok-arm.ensures,
       sym c.of_arm.ensures ∙ c.in-Some-of_arm.is,
       d,
     ))
@@ -83,12 +83,9 @@ pub read_fields-loop-place-preserved : goal.read_fields-loop-place-preserved
 read_fields-loop-place-preserved t c = λ unknown.
     let types = seen c.args.by.types in
     let fs = fields_of (kind_at c.args.by.types.table.now (Some c.args.row)) in
-    let i = c.loop-place.place in
-    let all = ap (λ (l : List Field). length l) c.fields-fields.ensures in
-    let lt : i < length fs = omega (arith, all, c.loop-place-test.true) in
-    field_made types c.args.by.depth (Denotes types c.args.by.depth c.args.depth) c.args.row unknown (members_view c.args.members.now) fs i
-    c.index-fields-place.result _ c.args.made.now c.loop-place.made c.read_field.new.made
-    (c.index-fields-place.is ∙ ap (λ (l : List Field). get_or l i _) c.fields-fields.ensures) lt (c.loop-place.invariant unknown) c.in_ok-read_field.ensures
+    field_made types c.args.by.depth (Denotes types c.args.by.depth c.args.depth) c.args.row unknown (members_view c.args.members.now) fs
+    c.loop-place.place c.fields-fields.result.now c.index-fields-place.result _ c.args.made.now c.loop-place.made c.read_field.new.made
+    c.fields-fields.ensures c.index-fields-place.is c.loop-place-test.true (c.loop-place.invariant unknown) c.in_ok-read_field.ensures
 
 pub read_fields-returns : goal.read_fields-returns
 read_fields-returns t c = λ unknown.
@@ -210,14 +207,14 @@ read_value-returns t c =
     let types = seen c.args.by.types in
     makes_as _ _ _ _ (λ v d. denotes_by types c.args.by.depth c.args.depth c.args.of c.in-Some.at c.in-Some-kind.kind.now
     (value_view c.args.value.now) v c.if-depth-eq0.false (sym c.resolved.ensures ∙ c.in-Some.is)
-    (some_is c.kind.result c.in-Some-kind.kind c.in-Some-kind.is c.kind.ensures) d) c.in_ok-read_kind.ensures
+    (some_is _ _ c.kind.result c.in-Some-kind.kind c.in-Some-kind.is c.kind.ensures) d) c.in_ok-read_kind.ensures
 
 pub read_field-returns-in-None : goal.read_field-returns-in-None
 read_field-returns-in-None t c =
     let types = seen c.args.by.types in
     let Sub = Denotes types c.args.by.depth c.args.depth in
     let found = get_member (name_of_field types (Some c.args.row) c.args.place) (members_view c.args.members.now) in
-    let e : found ≡ None = none_is c.in_ok-member_of_field.field-0 c.in-None.is c.in_ok-member_of_field.ensures in
+    let e : found ≡ None = none_is _ _ c.in_ok-member_of_field.field-0 c.in-None.is c.in_ok-member_of_field.ensures in
     subst (λ o. OnOk c.leave_out.result (MakesRow (DenotesOnce types c.args.by.depth Sub c.args.field.now o) c.args.made.now c.leave_out.new.made))
     (sym e) c.leave_out.ensures
 
@@ -228,7 +225,7 @@ read_field-returns-in_ok-read_value-in-Some t c =
     let f = c.args.field.now in
     let j = value_view c.in-Some.value.now in
     let found = get_member (name_of_field types (Some c.args.row) c.args.place) (members_view c.args.members.now) in
-    let e : found ≡ Some j = some_is c.in_ok-member_of_field.field-0 _ c.in-Some.is c.in_ok-member_of_field.ensures in
+    let e : found ≡ Some j = some_is _ _ c.in_ok-member_of_field.field-0 _ c.in-Some.is c.in_ok-member_of_field.ensures in
     subst (λ o. MakesRow (DenotesOnce types c.args.by.depth Sub f o) c.args.made.now c.read_value.new.made)
     (sym e) (row_of_one (Sub f.of j) (DenotesOnce types c.args.by.depth Sub f (Some j)) c.args.made.now c.read_value.new.made
     c.in_ok-read_value-in-Some.ensures (λ v d. (d, refl)))
@@ -241,7 +238,7 @@ read_unknown-returns t c =
     let j = value_view c.in-Some-member_named.value.now in
     let found = get_member (codes "...") (members_view c.args.members.now) in
     let e : type_of_unknown types (Some c.args.row) ≡ Some t = sym c.of_unknown.ensures ∙ c.in-Some.is in
-    let is : found ≡ Some j = some_is c.member_named.result _ c.in-Some-member_named.is c.member_named.ensures in
+    let is : found ≡ Some j = some_is _ _ c.member_named.result _ c.in-Some-member_named.is c.member_named.ensures in
     subst (λ u. MakesRow (DenoteUnknown Sub u found) c.args.made.now c.read_array.new.made) (sym e)
     (subst (λ o. MakesRow (DenoteUnknown Sub (Some t) o) c.args.made.now c.read_array.new.made) (sym is) c.in_ok-read_array.ensures)
 
@@ -260,6 +257,6 @@ read_unknown-returns-in_default-member_named t c =
     let Sub = Denotes types c.args.by.depth c.args.depth in
     let u = type_of_unknown types (Some c.args.row) in
     let found = get_member (codes "...") (members_view c.args.members.now) in
-    let e : found ≡ None = none_is c.member_named.result (none_of c.member_named.result c.in_default-member_named.not-Some) c.member_named.ensures in
+    let e : found ≡ None = none_is _ _ c.member_named.result (none_of c.member_named.result c.in_default-member_named.not-Some) c.member_named.ensures in
     subst (λ o. MakesRow (DenoteUnknown Sub u o) c.args.made.now c.args.made.now) (sym e)
     (row_of_none (DenoteUnknown Sub u None) c.args.made.now (no_unknown Sub u))
