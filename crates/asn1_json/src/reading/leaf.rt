@@ -146,9 +146,13 @@ fn read_integer(
 }
 
 /// Whether contents octets say a number.
-fn says(octets: &[u8], number: i128) -> bool
-    ensures { result ≡ true → number ≡ twos_complement_value octets.now }
+fn says(octets: &[u8], number: Option<i128>) -> bool
+    ensures { (n : ℤ) → number ≡ Some n → result ≡ true →
+        n ≡ twos_complement_value octets.now }
 {
+    let Some(number) = number else {
+        return false;
+    };
     match signed_number(octets, 16) {
         Some(said) => said == number,
         None => false,
@@ -175,7 +179,7 @@ fn read_name(
     let mut content = [0; 17];
     let start = signed_into(number, &mut content);
     let octets = &content[start..];
-    if !says(octets, number) {
+    if !says(octets, Some(number)) {
         return Err(trail.refused(of, Reason::Listed));
     }
     put(by, of, Item::Enumerated(octets), made, trail)

@@ -7,4 +7,4 @@ use Rattle.asn1_json.proofs.reading.bits.number_member.Goals as goal
 
 pub returns-in-Number : goal.returns-in-Number
 returns-in-Number c =
-    c.in-Some.ensures ∙ ap (λ (j : Json). Some j) (ap value_view c.in-Number.is ∙ number_view c.in-Number.text)
+    c.in-Some.ensures ∙ ap (λ (j : Json). Some j) (ap value_view c.in-Number.is ∙ number_view _ c.in-Number.text)

@@ -7,4 +7,4 @@ use Rattle.asn1_json.proofs.reading.bits.string_member.Goals as goal
 
 pub returns-in-String : goal.returns-in-String
 returns-in-String c =
-    c.in-Some.ensures ∙ ap (λ (j : Json). Some j) (ap value_view c.in-String.is ∙ string_view c.in-String.text)
+    c.in-Some.ensures ∙ ap (λ (j : Json). Some j) (ap value_view c.in-String.is ∙ string_view _ c.in-String.text)

@@ -18,4 +18,4 @@ use Rattle.asn1_json.proofs.reading.leaf.read_boolean.Goals as goal
 pub returns-in-Bool : goal.returns-in-Bool
 returns-in-Bool c =
     put_leaf (boolean c.in-Bool.truth) [] kinds.Boolean (value_view c.args.value.now) _ _ _ c.put.result
-    (c.put.ensures (boolean c.in-Bool.truth) refl) (c.in-Bool.truth, ap value_view c.in-Bool.is ∙ truth_view c.in-Bool.truth, refl)
+    (c.put.ensures (boolean c.in-Bool.truth) refl) (c.in-Bool.truth, ap value_view c.in-Bool.is ∙ truth_view _ c.in-Bool.truth, refl)

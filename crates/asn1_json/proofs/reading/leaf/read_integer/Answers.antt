@@ -22,4 +22,4 @@ returns-in-Some c =
     c.in_ok-content.field-0 c.in-Some.content c.in-Some.is c.in_ok-content.ensures in
     let same = said ∙ ap (λ (o : List ℕ). integer_text (twos_complement_value o)) (sym c.deref.ensures.value) in
     put_leaf (integer n) [] kinds.Integer (value_view c.args.value.now) _ _ _ c.put.result (c.put.ensures (integer n) refl)
-    (n, subst (λ (j : Json). DenotesInteger j n) (sym (ap value_view c.in-Number.is ∙ number_view c.in-Number.text)) same, refl)
+    (n, subst (λ (j : Json). DenotesInteger j n) (sym (ap value_view c.in-Number.is ∙ number_view _ c.in-Number.text)) same, refl)

@@ -23,4 +23,4 @@ returns-in-Some c = λ numbers extensible.
     c.in_ok-content-in-Number.field-0 c.in-Some.content c.in-Some.is c.in_ok-content-in-Number.ensures in
     let same = said ∙ ap (λ (o : List ℕ). integer_text (twos_complement_value o)) (sym c.deref.ensures.value) in
     put_leaf (enumerated n) labels (kinds.Enumerated numbers extensible) (value_view c.args.value.now) _ _ _ c.put.result (c.put.ensures (enumerated n) refl)
-    (n, subst (λ (j : Json). DenotesListed labels j n) (sym (ap value_view c.in-Number.is ∙ number_view c.in-Number.text)) same, refl)
+    (n, subst (λ (j : Json). DenotesListed labels j n) (sym (ap value_view c.in-Number.is ∙ number_view _ c.in-Number.text)) same, refl)

@@ -12,7 +12,7 @@ pub returns : goal.returns
 returns c = λ numbers extensible.
     let labels = labels_at c.args.by.types.names.now (Some c.args.at) in
     let n = c.in-Some.number in
-    let said = c.says.ensures c.if-not-says.false in
+    let said = c.says.ensures n refl c.if-not-says.false in
     let named : number_named labels c.args.name.now ≡ Some n = sym c.number.ensures ∙ c.in-Some.is in
     put_leaf (enumerated n) labels (kinds.Enumerated numbers extensible) (string c.args.name.now) _ _ _ c.put.result
     (c.put.ensures (enumerated n) (ap (λ (z : ℤ). leaf_mark (enumerated z)) (sym said))) (n, named, refl)

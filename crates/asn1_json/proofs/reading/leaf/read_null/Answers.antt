@@ -17,4 +17,4 @@ use Rattle.asn1_json.proofs.reading.leaf.read_null.Goals as goal
 
 pub returns-in-Null : goal.returns-in-Null
 returns-in-Null c =
-    put_leaf null [] kinds.Null (value_view c.args.value.now) _ _ _ c.put.result (c.put.ensures null refl) (ap value_view c.in-Null.is ∙ null_view, refl)
+    put_leaf null [] kinds.Null (value_view c.args.value.now) _ _ _ c.put.result (c.put.ensures null refl) (ap value_view c.in-Null.is ∙ null_view _, refl)
