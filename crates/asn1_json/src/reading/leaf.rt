@@ -10,7 +10,7 @@ ghost use Rattle.asn1_schema.specs.declared.schema.Kind.TheVariants as kinds;
 ghost use Rattle.asn1_schema.specs.Sound.{is_sound};
 ghost use Rattle.asn1_schema.specs.Tape.{leaf_mark, mark, marks};
 ghost use Rattle.asn1_schema.specs.Values.{Leaf, Value as SpecValue, leaf};
-ghost use Rattle.asn1_json.specs.DenotedLeaves.{DenotesIdentifier};
+ghost use Rattle.asn1_json.specs.DenotedLeaves.{DenotesIdentifier, number_named};
 ghost use Rattle.asn1_json.specs.Made.{tape_of_value};
 ghost use Rattle.asn1_json.specs.Outcomes.{DenotesSimple, HasWord, IsElementItem, Makes, Reads};
 ghost use Rattle.asn1_json.specs.Types.{labels_at};
@@ -145,12 +145,12 @@ fn read_integer(
     }
 }
 
-/// Whether contents octets say a number.
-fn says(octets: &[u8], number: Option<i128>) -> bool
-    ensures { (n : ℤ) → number ≡ Some n → result ≡ true →
-        n ≡ twos_complement_value octets.now }
+/// Whether contents octets say the number that a name stands for.
+fn are_named(types: Types<'_, '_>, at: usize, name: &str, octets: &[u8]) -> bool
+    ensures { result ≡ true → number_named (labels_at types.entry.names.now (Some at)) name.now ≡
+        Some (twos_complement_value octets.now) }
 {
-    let Some(number) = number else {
+    let Some(number) = types.number(at, name) else {
         return false;
     };
     match signed_number(octets, 16) {
@@ -179,7 +179,7 @@ fn read_name(
     let mut content = [0; 17];
     let start = signed_into(number, &mut content);
     let octets = &content[start..];
-    if !says(octets, Some(number)) {
+    if !are_named(by.types, at, name, octets) {
         return Err(trail.refused(of, Reason::Listed));
     }
     put(by, of, Item::Enumerated(octets), made, trail)

@@ -18,8 +18,11 @@ loop-member-preserved c = λ types depth nesting of each.
     let m = member_next Sub members i c.member-item.result _ c.member-item.is lt each in
     next_item document_of members Sub i c.member-item.result _ c.args.made.now c.loop-member.made c.append.new.self c.member-item.is lt
     (c.loop-member.invariant types depth nesting of each)
-    (record { kept = m.0; denotes = m.2;
-        put = subst (Appends c.loop-member.made c.append.new.self) (ap marks c.deref.ensures.value ∙ c.in_ok-tape.ensures ∙ m.1) c.in_ok-append.ensures })
+    (record {
+      kept = m.0;
+      denotes = m.2;
+      put = subst (Appends c.loop-member.made c.append.new.self) (ap marks c.deref.ensures.value ∙ c.in_ok-tape.ensures ∙ m.1) c.in_ok-append.ensures;
+    })
 
 pub returns : goal.returns
 returns c = λ types depth nesting of each.

@@ -10,9 +10,5 @@ use Rattle.asn1_json.proofs.reading.leaf.read_name.Goals as goal
 
 pub returns : goal.returns
 returns c = λ numbers extensible.
-    let labels = labels_at c.args.by.types.names.now (Some c.args.at) in
-    let n = c.in-Some.number in
-    let said = c.says.ensures n refl c.if-not-says.false in
-    let named : number_named labels c.args.name.now ≡ Some n = sym c.number.ensures ∙ c.in-Some.is in
-    put_leaf (enumerated n) labels (kinds.Enumerated numbers extensible) (string c.args.name.now) _ _ _ c.put.result
-    (c.put.ensures (enumerated n) (ap (λ (z : ℤ). leaf_mark (enumerated z)) (sym said))) (n, named, refl)
+    put_leaf _ (labels_at c.args.by.types.names.now (Some c.args.at)) (kinds.Enumerated numbers extensible) (string c.args.name.now) _ _ _ c.put.result
+    (c.put.ensures _ refl) (_, c.are_named.ensures c.if-not-are_named.false, refl)
