@@ -30,6 +30,10 @@ class Departs(Exception):
     """The octets are not strict DER: the offset and the section."""
 
 
+class Follows(Departs):
+    """Octets follow the element."""
+
+
 def element(octets, at, end):
     """Returns class, form, number, the offset of the contents and that of their end, by DER."""
     def octet(place, section):
@@ -143,22 +147,37 @@ def judge(octets):
             at = begins
             around.append(ends)
     if end < len(octets):
-        raise Departs(end, "8.1.1")
+        raise Follows(end, "8.1.1")
 
 
 def model(octets):
-    """Returns the offset and the section of the first departure, and what stands there; or nothing."""
+    """Returns the offset and the section of the first departure, the counts, and what stands there; or nothing."""
     try:
         judge(octets)
     except Departs as departs:
-        return *departs.args, standing(octets, departs.args[0])
+        at, section = departs.args
+        is_cut = section == "8.1.1" and not isinstance(departs, Follows)
+        return at, section, counts(octets[at:]) if is_cut else None, standing(octets, at)
     return None
+
+
+def counts(word):
+    """Returns how many octets the length at the front counts, and how many follow it, where these are fewer."""
+    try:
+        _, _, _, begins, ends = element(word + bytes(200), 0, 2 ** 65)
+    except Departs:
+        return None
+    return (ends - begins, len(word) - begins) if begins <= len(word) < ends else None
 
 
 def told(line):
     """Returns the same of a line of `check`."""
-    found = re.search(rb": octet (\d+): .* \(X\.690 ([0-9., ]+)\); there stands: ([^;]*); right is: ", line)
-    return (int(found[1]), found[2].decode(), found[3].decode()) if found else None
+    found = re.search(rb": octet (\d+): .*?(?:: of (\d+) octets, (\d+) are there)? \(X\.690 ([0-9., ]+)\); "
+                      rb"there stands: ([^;]*); right is: ", line)
+    if not found:
+        return None
+    cut = (int(found[2]), int(found[3])) if found[2] else None
+    return int(found[1]), found[4].decode(), cut, found[5].decode()
 
 
 def standing(octets, at):
@@ -274,6 +293,39 @@ def refusals(program, room):
         for task in ("dump", "check"):
             line = f"asn1: {path}: {words}\n" if words else ""
             yield f"{task}, {name}, standard error", run(program, task, path).stderr.decode(), line
+
+
+# Forms, what a file holds, the status, and what `check` says of it.
+FORMS = [
+    ("hex", b"30 03\r\n02 01 05\n", 0, "FILE: strict DER"),
+    ("hex", b"3003020105zz", 1, "asn1: FILE: no hexadecimal"),
+    ("hex", b"300", 1, "asn1: FILE: no hexadecimal"),
+    ("hex", b"", 1, "asn1: FILE: the file is empty"),
+    ("hex", b" \n", 1, "FILE: octet 0: octets are missing (X.690 8.1.1); there stands: nothing; "
+     "right is: all octets that the length counts"),
+    ("hex", b"308204d20500", 1, "FILE: octet 0: octets are missing: of 1234 octets, 2 are there "
+     "(X.690 8.1.1); there stands: 30 82 04 d2 05 00; right is: all octets that the length counts"),
+    ("hex", b"3082", 1, "FILE: octet 0: octets are missing (X.690 8.1.1); there stands: 30 82; "
+     "right is: all octets that the length counts"),
+    ("hex", b"3003040500 0000", 1, "FILE: octet 2: octets are missing: of 5 octets, 3 are there "
+     "(X.690 8.1.1); there stands: 04 05 00 00 00; right is: all octets that the length counts"),
+    ("hex", b"3003040500 0000000000", 1, "FILE: octet 2: octets are missing (X.690 8.1.1); "
+     "there stands: 04 05 00 00 00 00 00; right is: all octets that the length counts"),
+    ("base64", b"MAMC\n AQU=", 0, "FILE: strict DER"), ("base64", b"MAMCAQU", 1, "asn1: FILE: no base64"),
+    ("pem", b"MAMCAQU=\n", 1, "asn1: FILE: no block of PEM"),
+    ("pem", b"\n-----BEGIN A B-----\nMAMCAQU=\n-----END A B-----\n", 0, "FILE: A B in line 2: strict DER"),
+    ("der", b"0\3\2\1\5", 0, "FILE: strict DER"), ("der", b"", 1, "asn1: FILE: the file is empty"),
+]
+
+
+def forms(program, room):
+    """Yields what is told of files by the form that they are read in."""
+    path = room / "form"
+    for form, octets, status, line in FORMS:
+        path.write_bytes(octets)
+        ended = run(program, "check", "--from", form, path)
+        told = (ended.stdout + ended.stderr).decode().splitlines()[:1]
+        yield f"--from {form}, {octets}", (ended.returncode, told), (status, [line.replace("FILE", str(path))])
 
 
 def failures(program, room):
@@ -482,8 +534,9 @@ def main():
     with tempfile.TemporaryDirectory(prefix="asn1-") as name:
         room, wrong, count = pathlib.Path(name), 0, 0
         program = sys.argv[1]
-        for rows in (trees(program), odd_files(program, room), refusals(program, room), failures(program, room),
-                     modules(program, room), values(program, room), encoded(program, room), certificates(program),
+        for rows in (trees(program), odd_files(program, room), refusals(program, room), forms(program, room),
+                     failures(program, room), modules(program, room), values(program, room), encoded(program, room),
+                     certificates(program),
                      verdicts(program, room, 5000)):
             for what, seen, expected in rows:
                 count += 1

@@ -1,6 +1,6 @@
 mod Utf8Lengths
 mod Shown
-mod Told
+pub mod Told
 mod Gained
 mod Utf8Texts
 mod Utf8Values

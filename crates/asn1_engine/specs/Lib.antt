@@ -6,9 +6,11 @@ pub mod Heads
 pub mod Inner
 pub mod Lines
 pub mod Messages
+pub mod Documents
 pub mod Objects
 pub mod Pem
 pub mod Plain
+pub mod Shortfalls
 pub mod Texts
 pub mod Trees
 pub mod Values

@@ -1,5 +1,7 @@
 -- Messages of errors.
 use Rattle.std.specs.Prelude.{ℕ, List, ◌++◌, codes, decimal}
+use Rattle.asn1_engine.specs.declared.documents.DocumentError.{DocumentError}
+use Rattle.asn1_engine.specs.declared.documents.DocumentError.TheVariants as document_errors
 use Rattle.asn1_engine.specs.declared.error.RunError.{RunError}
 use Rattle.asn1_engine.specs.declared.error.RunError.TheVariants as run_errors
 use Rattle.asn1_engine.specs.declared.pem.PemError.{PemError}
@@ -16,3 +18,11 @@ pem_error_text (pem_errors.WrongEnd line) = codes "line " ++ decimal line ++ cod
 pem_error_text (pem_errors.NoBase64 line) = codes "line " ++ decimal line ++ codes ": the block is no base64"
 pem_error_text (pem_errors.Encrypted line) = codes "line " ++ decimal line ++ codes ": the block is encrypted"
 pem_error_text pem_errors.OutOfMemory = codes "out of memory"
+
+abbrev pub document_error_text : DocumentError → List ℕ
+document_error_text document_errors.Empty = codes "the file is empty"
+document_error_text (document_errors.Pem error) = pem_error_text error
+document_error_text document_errors.NoBlock = codes "no block of PEM"
+document_error_text document_errors.NoHexadecimal = codes "no hexadecimal"
+document_error_text document_errors.NoBase64 = codes "no base64"
+document_error_text document_errors.OutOfMemory = codes "out of memory"

@@ -15,28 +15,35 @@ use Rattle.asn1_strict.specs.Strict.{IsStrictDer}
 use Rattle.asn1_strict.specs.Departures.{DepartsFromDer}
 use Rattle.asn1_engine.specs.declared.error.Finding.{Finding}
 use Rattle.asn1_engine.specs.declared.error.Finding.TheVariants.{Holds, Refused}
+use Rattle.asn1_engine.specs.declared.shortfalls.Shortfall.{Shortfall}
+use Rattle.asn1_engine.specs.Shortfalls.{TellsShortfall, shortfall_text}
 use Rattle.asn1_engine.specs.Standing.{IsFront, standing_text}
 use Rattle.asn1_words.specs.Words.{number_text}
 use Rattle.asn1_engine.specs.Wording.{words_of}
 
--- what is wrong, its section, what stands there, and what would be right
-abbrev pub rule_text : List ℕ × List ℕ × List ℕ → List ℕ → List ℕ
-rule_text words word = words.1 ++ codes " (X.690 " ++ words.0 ++ codes "); there stands: " ++ standing_text word ++
-    codes "; right is: " ++ words.2
+-- what is wrong, and how many octets are missing
+abbrev pub wrong_text : List ℕ → Option Shortfall → List ℕ
+wrong_text wrong shortfall = wrong ++ shortfall_text shortfall
+
+-- the same, its section, what stands there, and what would be right
+abbrev pub rule_text : List ℕ × List ℕ × List ℕ → Option Shortfall → List ℕ → List ℕ
+rule_text words shortfall word = wrong_text words.1 shortfall ++ codes " (X.690 " ++ words.0 ++
+    codes "); there stands: " ++ standing_text word ++ codes "; right is: " ++ words.2
 
 -- the line of octets that are strict DER
 abbrev pub strict_text : List ℕ → List ℕ
 strict_text name = name ++ codes ": strict DER" ++ 10 ∷ []
 
 -- the line of a departure
-abbrev pub departure_text : List ℕ → Departure → List ℕ → List ℕ
-departure_text name departure word = name ++ codes ": octet " ++ number_text departure.offset ++ codes ": " ++
-    rule_text (words_of departure.requirement) word ++ 10 ∷ []
+abbrev pub departure_text : List ℕ → Departure → Option Shortfall → List ℕ → List ℕ
+departure_text name departure shortfall word = name ++ codes ": octet " ++ number_text departure.offset ++ codes ": " ++
+    rule_text (words_of departure.requirement) shortfall word ++ 10 ∷ []
 
--- the same, with what stands there
+-- the same, with what is missing and what stands there
 abbrev pub IsDepartureLine : List ℕ → List ℕ → Departure → List ℕ → Type 0
-IsDepartureLine name octets departure text = (word : List ℕ) × IsFront (drop departure.offset octets) word ×
-    (text ≡ departure_text name departure word)
+IsDepartureLine name octets departure text = (shortfall : Option Shortfall) × (word : List ℕ) ×
+    TellsShortfall departure.requirement (drop departure.offset octets) shortfall ×
+    IsFront (drop departure.offset octets) word × (text ≡ departure_text name departure shortfall word)
 
 -- the line of the first departure from strict DER, or that of none
 abbrev pub IsVerdict : List ℕ → List ℕ → List ℕ → Type 0

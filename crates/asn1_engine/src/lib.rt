@@ -2,6 +2,7 @@
 #![tactic(auto)]
 
 pub mod departures;
+pub mod documents;
 mod elements;
 pub mod error;
 pub mod heads;
@@ -11,6 +12,7 @@ pub mod objects;
 pub mod outcome;
 pub mod pem;
 pub mod plain;
+mod shortfalls;
 pub mod standing;
 pub mod tags;
 pub mod texts;

@@ -7,8 +7,10 @@ ghost use Rattle.asn1_engine.specs.Findings.{TellsStrict};
 ghost use Rattle.asn1_engine.specs.Verdicts.{AreOthers, AreVerdicts, ElementHolds, ElementLacks, HeaderLacks};
 ghost use Rattle.asn1_engine.specs.Verdicts.{IsDepartureLine, IsElementVerdict, IsFurther, IsLineOf, IsVerdict};
 ghost use Rattle.asn1_engine.specs.Verdicts.{NothingHolds, departure_text, finding_of, rule_text, strict_text};
+ghost use Rattle.asn1_engine.specs.Verdicts.{wrong_text};
 
 use crate::error::{Finding, RunError};
+use crate::shortfalls::{Shortfall, push_shortfall, shortfall_of};
 use crate::standing::{push_standing, word_at};
 use crate::wording::{Words, words_of};
 use asn1_headers::header::reading::header_by_der;
@@ -21,13 +23,30 @@ use asn1_words::words::{push_number, push_str};
 use std::alloc::{AllocError, Global};
 use std::io::Write;
 
-/// Appends a requirement in words, and what stands where it is not met.
-fn push_rule(text: &mut Vec<u8>, words: Words, word: &[u8]) -> Result<(), AllocError>
+/// Appends what is wrong, and what is missing.
+fn push_wrong(
+    text: &mut Vec<u8>,
+    wrong: &str,
+    shortfall: Option<Shortfall>,
+) -> Result<(), AllocError>
+    ensures { OnOk result (text.new.items ≡ text.old.items ++ wrong_text wrong.now shortfall) }
+{
+    push_str(text, wrong)?;
+    push_shortfall(text, shortfall)
+}
+
+/// Appends a requirement in words, and what is missing and stands where it is not met.
+fn push_rule(
+    text: &mut Vec<u8>,
+    words: Words,
+    shortfall: Option<Shortfall>,
+    word: &[u8],
+) -> Result<(), AllocError>
     ensures { OnOk result (text.new.items ≡ text.old.items ++
-        rule_text (words.entry.0.now, words.entry.1.now, words.entry.2.now) word.now) }
+        rule_text (words.entry.0.now, words.entry.1.now, words.entry.2.now) shortfall word.now) }
 {
     let (section, wrong, right) = words;
-    push_str(text, wrong)?;
+    push_wrong(text, wrong, shortfall)?;
     push_str(text, " (X.690 ")?;
     push_str(text, section)?;
     push_str(text, "); there stands: ")?;
@@ -41,15 +60,17 @@ fn push_departure(
     text: &mut Vec<u8>,
     name: &str,
     departure: Departure,
+    shortfall: Option<Shortfall>,
     word: &[u8],
 ) -> Result<(), AllocError>
-    ensures { OnOk result (text.new.items ≡ text.old.items ++ departure_text name.now departure word.now) }
+    ensures { OnOk result (text.new.items ≡ text.old.items ++
+        departure_text name.now departure shortfall word.now) }
 {
     push_str(text, name)?;
     push_str(text, ": octet ")?;
     push_number(text, departure.offset as u64)?;
     push_str(text, ": ")?;
-    push_rule(text, words_of(departure.requirement), word)?;
+    push_rule(text, words_of(departure.requirement), shortfall, word)?;
     push_str(text, "\n")
 }
 
@@ -75,7 +96,8 @@ fn write_departure<W: Write>(
 {
     let mut text = Vec::new(alloc);
     let word = word_at(octets, departure.offset);
-    push_departure(&mut text, name, departure, word)?;
+    let shortfall = shortfall_of(departure.requirement, behind(octets, departure.offset));
+    push_departure(&mut text, name, departure, shortfall, word)?;
     out.write_all(text.as_slice())?;
     Ok(())
 }

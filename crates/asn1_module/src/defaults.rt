@@ -1,5 +1,6 @@
 //! The strict encodings of default values (X.690 10, 11).
 
+use crate::identifiers::{bits_of_names, identifier_contents};
 use crate::mistake::ModuleError;
 use crate::places::behind_bounds;
 use crate::reader::MOST_DEPTH;
@@ -8,7 +9,7 @@ use crate::values::Texts;
 use asn1_headers::buffer::{DerBuffer, prepend_element};
 use asn1_schema::build::Schema;
 use asn1_schema::names::PartName;
-use asn1_schema::schema::{Kind, Tags, TextKind, TypeTag};
+use asn1_schema::schema::{Field, Kind, Presence, Tags, TextKind, TypeTag};
 use std::alloc::Global;
 
 /// The one tag of the type at a place, if its class is one of X.690.
@@ -185,8 +186,12 @@ fn contents(
     let value = texts.value(at);
     match kind {
         Kind::Integer => number_contents(alloc, texts.number(at, labels)),
-        Kind::Enumerated(_, _) => number_contents(alloc, texts.number(at, labels)),
-        Kind::Bits(is_named) => bit_contents(alloc, *is_named, value),
+        Kind::Enumerated(_, _) => number_contents(alloc, texts.listed(at, labels)),
+        Kind::Bits(is_named) => match texts.names(value) {
+            Some(names) => bits_of_names(alloc, texts, names, labels),
+            None => bit_contents(alloc, *is_named, value),
+        },
+        Kind::Identifier(is_relative) => { identifier_contents(alloc, texts, at, *is_relative) }
         Kind::Octets => octet_contents(alloc, value),
         Kind::Text(text) => text_contents(alloc, *text, value),
         Kind::Boolean => match value {
@@ -200,11 +205,23 @@ fn contents(
         },
         Kind::SequenceOf(_) => empty_contents(alloc, value),
         Kind::SetOf(_) => empty_contents(alloc, value),
+        Kind::Sequence(fields, _) if may_be_empty(fields) => empty_contents(alloc, value),
+        Kind::Set(fields, _) if may_be_empty(fields) => empty_contents(alloc, value),
         _ => Ok(None),
     }
 }
 
-/// The contents octets of a list without members.
+/// Whether each field may be left out.
+fn may_be_empty(fields: &[Field]) -> bool {
+    for field in fields {
+        if matches!(&field.presence, Presence::Required) {
+            return false;
+        }
+    }
+    true
+}
+
+/// The contents octets of a list without members, or of a sequence or a set without fields.
 fn empty_contents(alloc: Global, value: ValueSyntax<'_>) -> Result<Option<Vec<u8>>, ModuleError> {
     match value {
         ValueSyntax::Empty => Ok(Some(Vec::new(alloc))),
@@ -266,6 +283,17 @@ fn element(
     Ok(Vec::from_slice(alloc, buffer.as_bytes())?)
 }
 
+/// Whether elements stand in the contents octets of a type (X.690 8.9.1, 8.10.1, 8.11.1, 8.12.1).
+fn is_constructed(kind: &Kind) -> bool {
+    match kind {
+        Kind::SequenceOf(_) => true,
+        Kind::SetOf(_) => true,
+        Kind::Sequence(_, _) => true,
+        Kind::Set(_, _) => true,
+        _ => false,
+    }
+}
+
 /// The strict encoding of a default value of the type at a place, or none where it is not read.
 pub(crate) fn default_octets<'t>(
     alloc: Global,
@@ -284,6 +312,5 @@ pub(crate) fn default_octets<'t>(
     let Some(tag) = tag_of(schema, inner) else {
         return Ok(None);
     };
-    let is_list = matches!(&node.kind, Kind::SequenceOf(_) | Kind::SetOf(_));
-    Ok(Some(element(alloc, &octets, (tag, is_list), &round)?))
+    Ok(Some(element(alloc, &octets, (tag, is_constructed(&node.kind)), &round)?))
 }

@@ -3,8 +3,7 @@
 use crate::defaults::default_octets;
 use crate::mistake::{ModuleError, Place, Wrong};
 use crate::places::{Body, Declared, Places, built};
-use crate::reader::MOST_DEPTH;
-use crate::syntax::{Appearance, Component, LeftOut, Meaning, Span, TypeSyntax, part};
+use crate::syntax::{Appearance, Component, LeftOut, Row, part};
 use asn1_schema::build::Schema;
 use asn1_schema::parts::{Part, optional, required};
 use asn1_schema::schema::{Kind, Presence};
@@ -22,17 +21,6 @@ struct Defaulted {
     value: usize,
     /// Where it stands in the texts.
     stands: Place,
-}
-
-/// The fields of a sequence or a set, and the defaults of these.
-#[derive(Debug, Drop)]
-struct Row<'t> {
-    /// The fields.
-    parts: Vec<Part<'t>>,
-    /// Their defaults.
-    defaults: Vec<Defaulted>,
-    /// How many more components may be looked at.
-    looks: usize,
 }
 
 impl<'s, 't> Places<'s, 't> {
@@ -60,12 +48,8 @@ impl<'s, 't> Places<'s, 't> {
     ) -> Result<(), ModuleError> {
         let stands = declared.stands;
         let made = match declared.body {
-            Body::Sequence(span, is_open) => {
-                self.make_row(schema, declared, (span, is_open), defaults)?
-            }
-            Body::Set(span, is_open) => {
-                self.make_row(schema, declared, (span, is_open), defaults)?
-            }
+            Body::Sequence(row) => self.make_row(schema, declared, row, defaults)?,
+            Body::Set(row) => self.make_row(schema, declared, row, defaults)?,
             Body::SequenceOf(of) => {
                 let member = self.known(of, stands)?;
                 built(stands, schema.sequence_of("", member))?
@@ -98,109 +82,30 @@ impl<'s, 't> Places<'s, 't> {
         &mut self,
         schema: &mut Schema<'t>,
         declared: Declared,
-        of: (Span, bool),
+        row: Row,
         defaults: &mut Vec<Defaulted>,
     ) -> Result<usize, ModuleError> {
-        let mut row = Row {
-            parts: Vec::new(self.alloc),
-            defaults: Vec::new(self.alloc),
-            looks: self.texts.syntax.components.len().saturating_mul(2),
-        };
-        self.push_parts(&mut row, declared, of.0, MOST_DEPTH)?;
-        defaults.extend_from_slice(&row.defaults)?;
-        let made = match (is_set(declared), of.1) {
-            (false, false) => schema.sequence("", &row.parts),
-            (false, true) => schema.open_sequence("", &row.parts),
-            (true, false) => schema.set("", &row.parts),
-            (true, true) => schema.open_set("", &row.parts),
+        let mut parts = Vec::new(self.alloc);
+        for component in part(&self.texts.syntax.components, row.span) {
+            let of = self.known(component.of, component.place)?;
+            if let Appearance::Default(value) = component.appearance {
+                defaults.push(Defaulted {
+                    place: declared.place,
+                    field: parts.len(),
+                    of,
+                    value,
+                    stands: component.place,
+                })?;
+            }
+            parts.push(part_of(component, of))?;
+        }
+        let made = match (is_set(declared), row.is_open) {
+            (false, false) => schema.sequence("", &parts),
+            (false, true) => schema.open_sequence("", &parts),
+            (true, false) => schema.set("", &parts),
+            (true, true) => schema.open_set("", &parts),
         };
         built(declared.stands, made)
-    }
-
-    /// Puts components behind others, with those of other types where they stand. Where more are looked at than twice
-    /// those of all texts, some have the same name.
-    #[cycle(parts)]
-    fn push_parts(
-        &self,
-        row: &mut Row<'t>,
-        declared: Declared,
-        span: Span,
-        depth: usize,
-    ) -> Result<(), ModuleError> {
-        if depth == 0 {
-            return Err(declared.stands.error(Wrong::Depth));
-        }
-        for component in part(&self.texts.syntax.components, span) {
-            if row.looks == 0 {
-                return Err(declared.stands.error(Wrong::Repeated));
-            }
-            row.looks -= 1;
-            match component.appearance {
-                Appearance::Components => {
-                    let inner = self.components_of(component, is_set(declared))?;
-                    self.push_parts(row, declared, inner, depth - 1)?;
-                }
-                _ => self.push_part(row, declared, component)?,
-            }
-        }
-        Ok(())
-    }
-
-    /// Puts a component behind others.
-    fn push_part(
-        &self,
-        row: &mut Row<'t>,
-        declared: Declared,
-        component: &Component<'t>,
-    ) -> Result<(), ModuleError> {
-        let of = self.known(component.of, component.place)?;
-        if let Appearance::Default(value) = component.appearance {
-            row.defaults.push(Defaulted {
-                place: declared.place,
-                field: row.parts.len(),
-                of,
-                value,
-                stands: component.place,
-            })?;
-        }
-        let name = component.name;
-        let made = match component.appearance {
-            Appearance::Required => required(name, of),
-            _ => optional(name, of),
-        };
-        row.parts.push(made)?;
-        Ok(())
-    }
-
-    /// The components of the type whose components stand there: of a set in a set, and else of a sequence (X.680 25.5,
-    /// 27.2).
-    fn components_of(&self, component: &Component<'t>, is_set: bool) -> Result<Span, ModuleError> {
-        let texts = self.texts;
-        let mut at = component.of;
-        for _ in 0..MOST_DEPTH {
-            let Some(entry) = texts.syntax.types.get(at) else {
-                break;
-            };
-            match entry.syntax {
-                TypeSyntax::Sequence(span, _) if !is_set => return Ok(span),
-                TypeSyntax::Set(span, _) if is_set => return Ok(span),
-                TypeSyntax::Tagged(_, _, of) => at = of,
-                TypeSyntax::Reference(from, name) => {
-                    let named = texts.scopes.resolve(texts.syntax, entry.module, from, name);
-                    match named.map(|assignment| assignment.meaning) {
-                        Some(Meaning::Type(of)) => at = of,
-                        _ => break,
-                    }
-                }
-                _ => break,
-            }
-        }
-        let wrong = if is_set {
-            Wrong::NotSet
-        } else {
-            Wrong::NotSequence
-        };
-        Err(component.place.error(wrong))
     }
 
     /// Puts a default into a sequence or a set. One that is not read is noted, and the field may be left out.
@@ -239,7 +144,15 @@ fn drop_last(schema: &mut Schema<'_>) {
 
 /// Whether a declared type is a set.
 fn is_set(declared: Declared) -> bool {
-    matches!(declared.body, Body::Set(_, _))
+    matches!(declared.body, Body::Set(_))
+}
+
+/// The field that a component is. One with a default may be left out, until the default is put there.
+fn part_of<'t>(component: &Component<'t>, of: usize) -> Part<'t> {
+    match component.appearance {
+        Appearance::Required => required(component.name, of),
+        _ => optional(component.name, of),
+    }
 }
 
 /// Sets the default of a field.

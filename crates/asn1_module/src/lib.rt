@@ -1,8 +1,10 @@
 //! The text of ASN.1 modules (ITU-T X.680), read to the tables of `asn1_schema`.
 #![tactic(auto)]
 
+mod components;
 mod defaults;
 mod definitions;
+mod identifiers;
 pub mod mistake;
 pub mod modules;
 mod places;

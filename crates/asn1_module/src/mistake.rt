@@ -31,6 +31,8 @@ pub enum Wrong {
     Number,
     /// The name is assigned twice in its module, or two modules have the name.
     Twice,
+    /// Another component, arm, number or bit of the type has the name (X.680 19, 20, 22, 25, 27, 29).
+    SameName,
     /// No assignment and no import has the name.
     NotDefined,
     /// The name is imported from a module that is not given, or that does not define it.
@@ -43,7 +45,7 @@ pub enum Wrong {
     NotSequence,
     /// The components are of a type that is not a set.
     NotSet,
-    /// The components of other types stand in one sequence or set too often.
+    /// COMPONENTS OF puts more than 64 components into types for each one that is written.
     Repeated,
     /// The number of a listed or named number, or of a bit, is not known.
     NoNumber,
@@ -128,6 +130,7 @@ impl fmt::Display for Wrong {
             Wrong::NoKind(what) => write!(f, "{what} has no kind yet"),
             Wrong::Number => write!(f, "the number is too large"),
             Wrong::Twice => write!(f, "assigned twice"),
+            Wrong::SameName => write!(f, "another one before it has this name"),
             Wrong::NotDefined => write!(f, "not defined"),
             Wrong::NotImported => write!(f, "not defined in the module that it is imported from"),
             Wrong::NotType => write!(f, "not a type"),

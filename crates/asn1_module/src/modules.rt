@@ -1,13 +1,14 @@
 //! Modules, read into a table.
-ghost use Rattle.std.specs.Prelude.{◌≡◌, ◌≢◌, true, false, IfSome, IfNone, IfErr};
+ghost use Rattle.std.specs.Prelude.{◌≡◌, ◌≢◌, ◌<◌, length, true, false, IfSome, IfNone, IfOk, IfErr, OnOk};
 ghost use Rattle.asn1_module.specs.Mistakes.{StandsWithin};
-ghost use Rattle.asn1_module.specs.Modules.{IsTypeNamed, LacksType};
+ghost use Rattle.asn1_module.specs.Modules.{HavePlaces, IsTypeNamed, LacksType};
 
-use crate::mistake::{Mistake, ModuleError, Place};
+use crate::components::Rows;
+use crate::mistake::{Mistake, ModuleError, Place, Wrong};
 use crate::places::Places;
 use crate::reader::Reader;
 use crate::scopes::Scopes;
-use crate::syntax::{Meaning, Note, Syntax};
+use crate::syntax::{Assignment, Meaning, Note, Syntax};
 use crate::tokens::tokens_of;
 use crate::values::Texts;
 use asn1_schema::build::Schema;
@@ -83,23 +84,54 @@ fn read_syntax<'t>(alloc: Global, texts: &[&'t [u8]]) -> Result<Syntax<'t>, Modu
     Ok(reader.into_syntax())
 }
 
-/// The types that have names, with their places.
+/// The type that a name is assigned to, with its place among so many types of a table.
+fn placed_type<'t>(
+    syntax: &Syntax<'t>,
+    places: &Places<'_, 't>,
+    count: usize,
+    assignment: &Assignment<'t>,
+    at: usize,
+) -> Result<ModuleType<'t>, ModuleError>
+    ensures { IfOk result (λ named. named.of < count) }
+{
+    let module = syntax.modules.get(assignment.module);
+    match (module, places.placed(at)) {
+        (Some(module), Some(of)) if of < count => Ok(ModuleType {
+            module: module.name,
+            name: assignment.name,
+            of,
+        }),
+        _ => Err(assignment.place.error(Wrong::NotDefined)),
+    }
+}
+
+/// Puts a type behind others that have places among so many types of a table.
+fn push_type<'t>(
+    types: &mut Vec<ModuleType<'t>>,
+    named: ModuleType<'t>,
+    count: usize,
+) -> Result<(), ModuleError>
+    ensures { HavePlaces types.old.items count → named.entry.of < count →
+        OnOk result (HavePlaces types.new.items count) }
+{
+    types.push(named)?;
+    Ok(())
+}
+
+/// The types that have names, with their places among so many types of a table.
 fn named_types<'t>(
     alloc: Global,
     syntax: &Syntax<'t>,
     places: &Places<'_, 't>,
-) -> Result<Modules<'t>, ModuleError> {
+    count: usize,
+) -> Result<Modules<'t>, ModuleError>
+    ensures { IfOk result (λ modules. HavePlaces modules.types.items count) }
+{
     let mut types = Vec::new(alloc);
     for assignment in &syntax.assignments {
         if let Meaning::Type(at) = assignment.meaning {
-            let module = syntax.modules.get(assignment.module);
-            if let (Some(module), Some(of)) = (module, places.placed(at)) {
-                types.push(ModuleType {
-                    module: module.name,
-                    name: assignment.name,
-                    of,
-                })?;
-            }
+            let named = placed_type(syntax, places, count, assignment, at)?;
+            push_type(&mut types, named, count)?;
         }
     }
     Ok(Modules { types })
@@ -108,11 +140,16 @@ fn named_types<'t>(
 /// Puts the types of what the texts say into a table.
 fn make_types<'t>(
     alloc: Global,
-    syntax: &Syntax<'t>,
+    syntax: &mut Syntax<'t>,
     schema: &mut Schema<'t>,
     notes: &mut Vec<Note>,
-) -> Result<Modules<'t>, ModuleError> {
+) -> Result<Modules<'t>, ModuleError>
+    ensures { IfOk result (λ modules.
+        HavePlaces modules.types.items (length schema.new.nodes.items)) }
+{
     let scopes = Scopes::new(alloc, syntax)?;
+    Rows::new(alloc, &scopes, syntax)?.make_all(syntax)?;
+    let syntax = &*syntax;
     let texts = Texts {
         syntax,
         scopes: &scopes,
@@ -122,7 +159,7 @@ fn make_types<'t>(
     places.define_all(schema)?;
     notes.extend_from_slice(&syntax.notes)?;
     notes.extend_from_slice(&places.notes)?;
-    named_types(alloc, syntax, &places)
+    named_types(alloc, syntax, &places, schema.nodes.len())
 }
 
 /// Reads texts, and puts their types into a table.
@@ -131,9 +168,12 @@ fn read_texts<'t>(
     texts: &[&'t [u8]],
     schema: &mut Schema<'t>,
     notes: &mut Vec<Note>,
-) -> Result<Modules<'t>, ModuleError> {
-    let syntax = read_syntax(alloc, texts)?;
-    make_types(alloc, &syntax, schema, notes)
+) -> Result<Modules<'t>, ModuleError>
+    ensures { IfOk result (λ modules.
+        HavePlaces modules.types.items (length schema.new.nodes.items)) }
+{
+    let mut syntax = read_syntax(alloc, texts)?;
+    make_types(alloc, &mut syntax, schema, notes)
 }
 
 /// Reads modules and puts their types into a table. Names are resolved among all of them.
@@ -145,7 +185,9 @@ pub fn read_modules<'t>(
     schema: &mut Schema<'t>,
     notes: &mut Vec<Note>,
 ) -> Result<Modules<'t>, ModuleError>
-    ensures { IfErr result (StandsWithin texts.now) }
+    ensures mistake { IfErr result (StandsWithin texts.now) }
+    ensures places { IfOk result (λ modules.
+        HavePlaces modules.types.items (length schema.new.nodes.items)) }
 {
     match read_texts(alloc, texts, schema, notes) {
         Ok(modules) => Ok(modules),

@@ -2,7 +2,7 @@
 
 use crate::mistake::{ModuleError, Place, Wrong};
 use crate::reader::MOST_DEPTH;
-use crate::syntax::{LeftOut, Meaning, Note, Span, TagMode, TypeEntry, TypeSyntax, part};
+use crate::syntax::{LeftOut, Meaning, Note, Row, Span, TagMode, TypeEntry, TypeSyntax, part};
 use crate::values::Texts;
 use asn1_schema::build::{Schema, universal};
 use asn1_schema::parts::arm;
@@ -23,10 +23,10 @@ pub(crate) enum Slot {
 /// What a declared type is defined as.
 #[derive(Debug, Clone, Copy)]
 pub(crate) enum Body {
-    /// These components, and whether there is an extension mark.
-    Sequence(Span, bool),
+    /// These components.
+    Sequence(Row),
     /// The same, in any order.
-    Set(Span, bool),
+    Set(Row),
     /// Members of the type of an entry.
     SequenceOf(usize),
     /// The same.
@@ -148,9 +148,7 @@ impl<'s, 't> Places<'s, 't> {
         depth: usize,
     ) -> Result<usize, ModuleError> {
         match entry.syntax {
-            TypeSyntax::Choice(span, is_open) => {
-                self.make_choice(schema, entry, (span, is_open), depth)
-            }
+            TypeSyntax::Choice(row) => self.make_choice(schema, entry, row, depth),
             TypeSyntax::Tagged(tag, TagMode::Implicit, of) => {
                 if self.is_open(of) {
                     return self.declare(schema, entry, tag, Body::Explicit(of));
@@ -179,16 +177,16 @@ impl<'s, 't> Places<'s, 't> {
         &mut self,
         schema: &mut Schema<'t>,
         entry: TypeEntry<'t>,
-        parts: (Span, bool),
+        row: Row,
         depth: usize,
     ) -> Result<usize, ModuleError> {
-        let components = part(&self.texts.syntax.components, parts.0);
+        let components = part(&self.texts.syntax.components, row.span);
         let mut arms = Vec::new(self.alloc);
         for component in components {
             let of = self.place(schema, component.of, depth)?;
             arms.push(arm(component.name, of))?;
         }
-        let made = if parts.1 {
+        let made = if row.is_open {
             schema.open_choice(entry.name, &arms)
         } else {
             schema.choice(entry.name, &arms)
@@ -225,7 +223,7 @@ impl<'s, 't> Places<'s, 't> {
                 return false;
             };
             match entry.syntax {
-                TypeSyntax::Choice(_, _) => return true,
+                TypeSyntax::Choice(_) => return true,
                 TypeSyntax::Any => return true,
                 TypeSyntax::Within(inner, _, _) => at = inner,
                 TypeSyntax::Reference(from, name) => match self.referred(*entry, from, name) {
@@ -263,12 +261,8 @@ impl<'s, 't> Places<'s, 't> {
     ) -> Result<usize, ModuleError> {
         let list = universal(16);
         match entry.syntax {
-            TypeSyntax::Sequence(span, is_open) => {
-                self.declare(schema, entry, list, Body::Sequence(span, is_open))
-            }
-            TypeSyntax::Set(span, is_open) => {
-                self.declare(schema, entry, universal(17), Body::Set(span, is_open))
-            }
+            TypeSyntax::Sequence(row) => self.declare(schema, entry, list, Body::Sequence(row)),
+            TypeSyntax::Set(row) => self.declare(schema, entry, universal(17), Body::Set(row)),
             TypeSyntax::SequenceOf(of) => self.declare(schema, entry, list, Body::SequenceOf(of)),
             TypeSyntax::SetOf(of) => self.declare(schema, entry, universal(17), Body::SetOf(of)),
             TypeSyntax::Tagged(tag, _, of) => self.declare(schema, entry, tag, Body::Explicit(of)),

@@ -66,6 +66,27 @@ fn twice(list: &[Named<'_>]) -> Option<usize> {
     None
 }
 
+/// Tells whether names are different. The second one of two that are the same is a mistake.
+pub(crate) fn check_distinct(alloc: Global, names: &[(&str, Place)]) -> Result<(), ModuleError> {
+    let mut list = Vec::new(alloc);
+    for (at, (name, _)) in names.iter().enumerate() {
+        let (module, part) = (0, "");
+        list.push(Named {
+            module,
+            name: *name,
+            part,
+            at,
+        })?;
+    }
+    list.sort_unstable();
+    if let Some(at) = twice(&list) {
+        if let Some((_, place)) = names.get(at) {
+            return Err(place.error(Wrong::SameName));
+        }
+    }
+    Ok(())
+}
+
 /// Names and what belongs to them, sorted.
 fn sorted_known<'t>(alloc: Global, known: &[Known<'t>]) -> Result<Vec<Named<'t>>, ModuleError> {
     let mut list = Vec::new(alloc);

@@ -22,6 +22,17 @@ pub enum TagMode {
     Implicit,
 }
 
+/// The components of a sequence or a set, or the arms of a choice.
+#[derive(Debug, Clone, Copy)]
+pub struct Row {
+    /// Which they are.
+    pub span: Span,
+    /// Whether unknown elements may follow: there is an extension mark.
+    pub is_open: bool,
+    /// Whether they get tags by their order (X.680 25.2).
+    pub is_automatic: bool,
+}
+
 /// A type, as it is written.
 #[derive(Debug, Clone, Copy)]
 pub enum TypeSyntax<'t> {
@@ -49,12 +60,12 @@ pub enum TypeSyntax<'t> {
     GeneralizedTime,
     /// ANY, or an open type.
     Any,
-    /// SEQUENCE: components, and whether there is an extension mark.
-    Sequence(Span, bool),
-    /// SET: components, and whether there is an extension mark.
-    Set(Span, bool),
-    /// CHOICE: arms, and whether there is an extension mark.
-    Choice(Span, bool),
+    /// SEQUENCE: components.
+    Sequence(Row),
+    /// SET: components.
+    Set(Row),
+    /// CHOICE: arms.
+    Choice(Row),
     /// SEQUENCE OF.
     SequenceOf(usize),
     /// SET OF.
@@ -97,6 +108,10 @@ pub enum ValueSyntax<'t> {
     Reference(Option<&'t str>, &'t str),
     /// `{}`.
     Empty,
+    /// `{ iso 3 }`: the values of an object identifier's arcs, or one name.
+    Arcs(Span),
+    /// `{ a, b }`: names of bits.
+    Names(Span),
     /// Characters, with their quotation marks.
     Text(&'t [u8]),
     /// `'01'B`.
@@ -112,6 +127,8 @@ pub enum ValueSyntax<'t> {
 pub struct ValueEntry<'t> {
     /// The module in which it stands.
     pub module: usize,
+    /// The name of its type, where it is assigned and its type is a name alone.
+    pub governor: &'t str,
     /// Where it stands.
     pub place: Place,
     /// What it is.
@@ -142,6 +159,8 @@ pub struct Component<'t> {
     pub of: usize,
     /// Whether it may be left out.
     pub appearance: Appearance,
+    /// Whether it stands between extension marks.
+    pub is_addition: bool,
 }
 
 /// A named or listed number, or a named bit.
@@ -267,6 +286,8 @@ pub struct Syntax<'t> {
     pub types: Vec<TypeEntry<'t>>,
     /// The values.
     pub values: Vec<ValueEntry<'t>>,
+    /// The places of the values that stand in braces.
+    pub arcs: Vec<usize>,
     /// The components and arms.
     pub components: Vec<Component<'t>>,
     /// The named numbers and bits.
@@ -311,6 +332,7 @@ impl<'t> Syntax<'t> {
             assignments: Vec::new(alloc),
             types: Vec::new(alloc),
             values: Vec::new(alloc),
+            arcs: Vec::new(alloc),
             components: Vec::new(alloc),
             numbers: Vec::new(alloc),
             ranges: Vec::new(alloc),

@@ -1,13 +1,16 @@
 //! What values are: names of values are followed, listed numbers without a number get one, and ranges are joined.
 
 use crate::mistake::{ModuleError, Wrong};
+use crate::reader::MOST_DEPTH;
 use crate::scopes::Scopes;
-use crate::syntax::{End, Meaning, NamedNumber, NumberRange, Span, Syntax, ValueSyntax, part};
+use crate::syntax::{
+    End, Meaning, NamedNumber, NumberRange, Span, Syntax, TypeSyntax, ValueEntry, ValueSyntax, part,
+};
 use asn1_schema::names::{PartName, label};
 use std::alloc::Global;
 
 /// Through how many names a value may lead.
-const MOST_NAMES: usize = 64;
+pub(crate) const MOST_NAMES: usize = 64;
 
 /// The texts and their names.
 #[derive(Debug, Clone, Copy)]
@@ -19,6 +22,15 @@ pub(crate) struct Texts<'s, 't> {
 }
 
 impl<'s, 't> Texts<'s, 't> {
+    /// The place of the value that a name stands for.
+    fn named_value(self, module: usize, from: Option<&str>, name: &str) -> Option<usize> {
+        let named = self.scopes.resolve(self.syntax, module, from, name)?;
+        match named.meaning {
+            Meaning::Value(of) => Some(of),
+            _ => None,
+        }
+    }
+
     /// What the value at a place is, behind its names.
     pub(crate) fn value(self, at: usize) -> ValueSyntax<'t> {
         let mut next = at;
@@ -29,10 +41,9 @@ impl<'s, 't> Texts<'s, 't> {
             let ValueSyntax::Reference(from, name) = entry.syntax else {
                 return entry.syntax;
             };
-            let named = self.scopes.resolve(self.syntax, entry.module, from, name);
-            match named.map(|assignment| assignment.meaning) {
-                Some(Meaning::Value(of)) => next = of,
-                _ => return ValueSyntax::Unread,
+            match self.named_value(entry.module, from, name) {
+                Some(of) => next = of,
+                None => return ValueSyntax::Unread,
             }
         }
         ValueSyntax::Unread
@@ -42,16 +53,96 @@ impl<'s, 't> Texts<'s, 't> {
     pub(crate) fn number(self, at: usize, labels: &[PartName<'_>]) -> Option<i128> {
         let entry = self.syntax.values.get(at)?;
         if let ValueSyntax::Reference(None, name) = entry.syntax {
-            for named in labels {
-                if named.name == name {
-                    return Some(named.number);
-                }
+            if let Some(number) = labelled(labels, name) {
+                return Some(number);
             }
         }
-        match self.value(at) {
-            ValueSyntax::Integer(number) => Some(number),
-            _ => None,
+        self.integer(at)
+    }
+
+    /// The number that the value at a place is, where a name may be one that the type of a value gives to a number.
+    fn integer(self, at: usize) -> Option<i128> {
+        let mut next = at;
+        for _ in 0..MOST_NAMES {
+            let entry = self.syntax.values.get(next)?;
+            match entry.syntax {
+                ValueSyntax::Integer(number) => return Some(number),
+                ValueSyntax::Reference(from, name) => {
+                    if let (None, Some(number)) = (from, self.governed(entry, name)) {
+                        return Some(number);
+                    }
+                    next = self.named_value(entry.module, from, name)?;
+                }
+                _ => return None,
+            }
         }
+        None
+    }
+
+    /// The number to which the type of a value gives this name (X.680 19), if that number is written there.
+    fn governed(self, entry: &ValueEntry<'t>, name: &str) -> Option<i128> {
+        for named in part(&self.syntax.numbers, self.named_by(entry)?) {
+            if named.name == name {
+                return match self.syntax.values.get(named.number?)?.syntax {
+                    ValueSyntax::Integer(number) => Some(number),
+                    _ => None,
+                };
+            }
+        }
+        None
+    }
+
+    /// The numbers to which the type of a value gives names, if it is an INTEGER.
+    fn named_by(self, entry: &ValueEntry<'t>) -> Option<Span> {
+        let (mut module, mut from, mut name) = (entry.module, None, entry.governor);
+        for _ in 0..MOST_NAMES {
+            let named = self.scopes.resolve(self.syntax, module, from, name)?;
+            let Meaning::Type(of) = named.meaning else {
+                return None;
+            };
+            let of = self.syntax.types.get(self.inner(of))?;
+            match of.syntax {
+                TypeSyntax::Integer(span) => return Some(span),
+                TypeSyntax::Reference(other, of_name) => {
+                    module = of.module;
+                    from = other;
+                    name = of_name;
+                }
+                _ => return None,
+            }
+        }
+        None
+    }
+
+    /// The type in the tags and constraints of the type at a place.
+    fn inner(self, of: usize) -> usize {
+        let mut at = of;
+        for _ in 0..MOST_DEPTH {
+            match self.syntax.types.get(at).map(|entry| entry.syntax) {
+                Some(TypeSyntax::Tagged(_, _, next)) => at = next,
+                Some(TypeSyntax::Within(next, _, _)) => at = next,
+                _ => break,
+            }
+        }
+        at
+    }
+
+    /// The number of an enumeration that the value at a place is. Values of other names are of the enumeration too.
+    pub(crate) fn listed(self, at: usize, labels: &[PartName<'_>]) -> Option<i128> {
+        let mut next = at;
+        for _ in 0..MOST_NAMES {
+            let entry = self.syntax.values.get(next)?;
+            let ValueSyntax::Reference(from, name) = entry.syntax else {
+                return None;
+            };
+            if from.is_none() {
+                if let Some(number) = labelled(labels, name) {
+                    return Some(number);
+                }
+            }
+            next = self.named_value(entry.module, from, name)?;
+        }
+        None
     }
 
     /// The numbers that have names.
@@ -151,6 +242,16 @@ impl<'s, 't> Texts<'s, 't> {
         };
         Some((lower, upper))
     }
+}
+
+/// The number that has this name.
+pub(crate) fn labelled(labels: &[PartName<'_>], name: &str) -> Option<i128> {
+    for named in labels {
+        if named.name == name {
+            return Some(named.number);
+        }
+    }
+    None
 }
 
 /// The least number from this one on that is not among others, which ascend, and those of them that are more.

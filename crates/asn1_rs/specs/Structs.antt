@@ -6,6 +6,7 @@ pub mod DefaultTypes
 pub mod Keys
 pub mod Members
 pub mod PartsOfRows
+pub mod Reading
 pub mod Types
 pub mod Untold
 use Rattle.std.specs.Prelude.{◌≡◌, ◌⊎◌, ◌||◌, ◌&&◌, ℕ, Bool, true, false, IsTrue, List, [], ◌∷◌, ◌++◌}

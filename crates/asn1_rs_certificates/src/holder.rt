@@ -33,8 +33,6 @@ impl<'a> ReadsRow<'a, DerParser> for Holder<'a> {
         by_der ⟦<Holder<'a> as Row>⟧.row_laws.grammar
         ⟦<HolderRow<'a> as ReadsRow<'a, DerParser>>⟧.row_gives };
 
-    ghost exact_row = { λ octets answer gives. gives.0 };
-
     #[tactic(auto, using(asn1_rs::specs::Structs::PartsOfRows::part_read, asn1_rs::specs::Structs::PartsOfRows::part_refused))]
     fn read_row(alloc: Global, octets: &'a [u8]) -> Result<Holder<'a>, Error> {
         match row_by_der::<HolderRow<'a>>(alloc, octets) {

@@ -66,8 +66,6 @@ impl<'a> ReadsRow<'a, DerParser> for Asked<'a> {
         by_der ⟦<Asked<'a> as Row>⟧.row_laws.grammar
         ⟦<AskedRow<'a> as ReadsRow<'a, DerParser>>⟧.row_gives };
 
-    ghost exact_row = { λ octets answer gives. gives.0 };
-
     #[tactic(auto, using(asn1_rs::specs::Structs::PartsOfRows::part_read, asn1_rs::specs::Structs::PartsOfRows::part_refused))]
     fn read_row(alloc: Global, octets: &'a [u8]) -> Result<Asked<'a>, Error> {
         match row_by_der::<AskedRow<'a>>(alloc, octets) {

@@ -32,8 +32,6 @@ impl<'a> ReadsRow<'a, BerParser> for ComparedValue<'a> {
         by_ber ⟦<ComparedValue<'a> as Row>⟧.row_laws.grammar
         ⟦<ComparedFields<'a> as ReadsRow<'a, BerParser>>⟧.row_gives };
 
-    ghost exact_row = { λ octets answer gives. gives.0 };
-
     #[tactic(auto, using(asn1_rs::specs::Structs::PartsOfRows::part_read, asn1_rs::specs::Structs::PartsOfRows::part_refused))]
     fn read_row(alloc: Global, octets: &'a [u8]) -> Result<ComparedValue<'a>, Error> {
         match row_by_ber::<ComparedFields<'a>>(alloc, octets) {

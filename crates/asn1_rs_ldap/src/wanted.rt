@@ -32,8 +32,6 @@ impl<'a> ReadsRow<'a, BerParser> for Wanted<'a> {
         by_ber ⟦<Wanted<'a> as Row>⟧.row_laws.grammar
         ⟦<WantedFields<'a> as ReadsRow<'a, BerParser>>⟧.row_gives };
 
-    ghost exact_row = { λ octets answer gives. gives.0 };
-
     #[tactic(auto, using(asn1_rs::specs::Structs::PartsOfRows::part_read, asn1_rs::specs::Structs::PartsOfRows::part_refused))]
     fn read_row(alloc: Global, octets: &'a [u8]) -> Result<Wanted<'a>, Error> {
         match row_by_ber::<WantedFields<'a>>(alloc, octets) {

@@ -1,5 +1,4 @@
 mod Appended
 mod Found
-mod Gains
 mod NoValues
 mod ValuesInRow

@@ -25,8 +25,11 @@ reason_text reasons.Repeated = codes "a component stands there more than once"
 reason_text reasons.Default = codes "the default is no value of its type"
 reason_text reasons.TrailingOctets = codes "octets follow where none may"
 
+-- an octet of the input, with the name of its file
+abbrev pub octet_text : Input → ℕ → List ℕ
+octet_text input octet = input.name.now ++ codes ": octet " ++ number_text (sum_within input.offset octet)
+
 -- the line of a refusal: the name of the type, or else its kind; and whatever the names of the parts are
 abbrev pub IsRefusalLine : List Node → List TypeNames → Input → Refusal → List ℕ → Type 0
-IsRefusalLine table names input refusal text = (path : List ℕ) × (text ≡ input.name.now ++ codes ": octet " ++
-    number_text (sum_within input.offset refusal.octet) ++ path ++ codes " (" ++ named_text 16 table names refusal.of ++ codes "): " ++
-    reason_text refusal.reason ++ codes "\n")
+IsRefusalLine table names input refusal text = (path : List ℕ) × (text ≡ octet_text input refusal.octet ++ path ++
+    codes " (" ++ named_text 16 table names refusal.of ++ codes "): " ++ reason_text refusal.reason ++ codes "\n")

@@ -1,6 +1,5 @@
 -- What is told of octets that may be the strict encoding of a value.
 use Rattle.std.specs.Prelude.{ℕ, ◌≡◌, ◌⊎◌, List, ◌++◌, codes}
-use Rattle.asn1_engine.specs.Trees.{sum_within}
 use Rattle.asn1_engine.specs.declared.error.Finding.{Finding}
 use Rattle.asn1_engine.specs.declared.error.Finding.TheVariants.{Holds, Refused}
 use Rattle.asn1_schema.specs.Differing.{HasNone, HasOther, IsNotStrict}
@@ -11,8 +10,8 @@ use Rattle.asn1_schema.specs.declared.build.Schema.{Schema}
 use Rattle.asn1_schema.specs.declared.schema.Node.{Node}
 use Rattle.asn1_typed.specs.Decodings.{IsRefused}
 use Rattle.asn1_typed.specs.Kinds.{named_text}
+use Rattle.asn1_typed.specs.Refusals.{octet_text}
 use Rattle.asn1_typed.specs.declared.input.Input.{Input}
-use Rattle.asn1_words.specs.Words.{number_text}
 
 -- the octets are the strict encoding of a value, or of none
 abbrev pub FindsStrict : List Node → ℕ → List ℕ → Finding → Type 0
@@ -25,8 +24,8 @@ strict_text schema of input = input.name.now ++ codes ": strict DER of " ++
 
 -- the octet, whatever the names of the parts are that lead to it
 abbrev pub IsDifferenceLine : Input → ℕ → List ℕ → Type 0
-IsDifferenceLine input octet line = (path : List ℕ) × (line ≡ input.name.now ++ codes ": octet " ++
-    number_text (sum_within input.offset octet) ++ path ++ codes ": the strict encoding of the value differs here\n")
+IsDifferenceLine input octet line = (path : List ℕ) ×
+    (line ≡ octet_text input octet ++ path ++ codes ": the strict encoding of the value differs here\n")
 
 abbrev pub no_encoding_text : Input → List ℕ
 no_encoding_text input = input.name.now ++

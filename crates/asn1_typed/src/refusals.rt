@@ -1,6 +1,6 @@
 //! Why octets are no value of a type, in a line.
 ghost use Rattle.std.specs.Prelude.{◌≡◌, ◌++◌, List, ℕ, OnOk};
-ghost use Rattle.asn1_typed.specs.Refusals.{IsRefusalLine, reason_text};
+ghost use Rattle.asn1_typed.specs.Refusals.{IsRefusalLine, octet_text, reason_text};
 
 use crate::input::Input;
 use crate::kinds::{MOST_DEPTH, push_named};
@@ -31,7 +31,28 @@ fn reason_words(reason: Reason) -> &'static str
     }
 }
 
-/// Appends the line of a refusal: the octet of the file, the names of the parts that lead to it as far as they are known, and why.
+/// Appends the octet of a refusal in its file, and the names of the parts that lead to it as far as they are known.
+pub fn push_octet(
+    alloc: Global,
+    text: &mut Vec<u8>,
+    input: Input<'_>,
+    schema: &Schema<'_>,
+    of: usize,
+    refusal: &Refusal,
+) -> Result<(), AllocError>
+    ensures { OnOk result ((path : List ℕ) ×
+        (text.new.items ≡ text.old.items ++ (octet_text input.entry refusal.now.octet ++ path))) }
+{
+    let mut path = Vec::new(alloc);
+    push_path(&mut path, schema, of, input.octets, refusal)?;
+    push_str(text, input.name)?;
+    push_str(text, ": octet ")?;
+    push_number(text, input.offset.saturating_add(refusal.octet) as u64)?;
+    text.extend_from_slice(path.as_slice())?;
+    Ok(())
+}
+
+/// Appends the line of a refusal: its octet, and why.
 pub fn push_refusal(
     alloc: Global,
     text: &mut Vec<u8>,
@@ -44,12 +65,7 @@ pub fn push_refusal(
         IsRefusalLine schema.now.nodes.items schema.now.names.items input.entry refusal.now line ×
         (text.new.items ≡ text.old.items ++ line)) }
 {
-    let mut path = Vec::new(alloc);
-    push_path(&mut path, schema, of, input.octets, refusal)?;
-    push_str(text, input.name)?;
-    push_str(text, ": octet ")?;
-    push_number(text, input.offset.saturating_add(refusal.octet) as u64)?;
-    text.extend_from_slice(path.as_slice())?;
+    push_octet(alloc, text, input, schema, of, refusal)?;
     push_str(text, " (")?;
     push_named(text, schema, refusal.of, MOST_DEPTH)?;
     push_str(text, "): ")?;

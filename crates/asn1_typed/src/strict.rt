@@ -5,14 +5,13 @@ ghost use Rattle.asn1_typed.specs.Strict.{FindsStrict, IsDifferenceLine, IsVerdi
 
 use crate::input::Input;
 use crate::kinds::{MOST_DEPTH, push_named};
-use crate::path::push_path;
 use crate::reading;
-use crate::refusals::push_refusal;
+use crate::refusals::{push_octet, push_refusal};
 use asn1_engine::{Finding, RunError};
 use asn1_schema::build::Schema;
 use asn1_schema::refusal::{Reason, Refusal};
 use asn1_schema::strictness::{NotStrict, decode_strict};
-use asn1_words::words::{push_number, push_str};
+use asn1_words::words::push_str;
 use std::alloc::{AllocError, Global};
 
 /// Appends that octets are the strict encoding of a value.
@@ -42,18 +41,13 @@ fn push_difference(
     ensures { OnOk result ((line : List ℕ) × IsDifferenceLine input.entry octet line ×
         (text.new.items ≡ text.old.items ++ line)) }
 {
-    let mut path = Vec::new(alloc);
     let place = Refusal {
         octet,
         of,
         field: None,
         reason: Reason::Nothing,
     };
-    push_path(&mut path, schema, of, input.octets, &place)?;
-    push_str(text, input.name)?;
-    push_str(text, ": octet ")?;
-    push_number(text, input.offset.saturating_add(octet) as u64)?;
-    text.extend_from_slice(path.as_slice())?;
+    push_octet(alloc, text, input, schema, of, &place)?;
     push_str(text, ": the strict encoding of the value differs here\n")?;
     Ok(())
 }

@@ -166,8 +166,7 @@ impl<'s, 't> Reader<'s, 't> {
         Ok(())
     }
 
-    /// Reads what a name with a small letter is assigned to. The type of a value, and what a macro puts there, is
-    /// skipped.
+    /// Reads what a name with a small letter is assigned to.
     fn read_value_meaning(&mut self, name: &'t str) -> Result<Meaning, ModuleError> {
         if self.is("{") {
             self.read_parameters(name)?;
@@ -175,8 +174,7 @@ impl<'s, 't> Reader<'s, 't> {
         if self.is("::=") {
             return Err(self.expected("a type"));
         }
-        self.skip_behind("::=")?;
-        Ok(Meaning::Value(self.read_value()?))
+        Ok(Meaning::Value(self.read_assigned_value()?))
     }
 
     /// Reads what a name with a capital letter is assigned to.

@@ -144,21 +144,21 @@ impl<'s, 't> Reader<'s, 't> {
     fn read_untagged(&mut self, depth: usize, place: Place) -> Result<usize, ModuleError> {
         if self.takes("SEQUENCE") {
             if self.is("{") {
-                let (span, is_open) = self.read_components(depth)?;
-                return self.put_type("", place, TypeSyntax::Sequence(span, is_open));
+                let row = self.read_components(depth)?;
+                return self.put_type("", place, TypeSyntax::Sequence(row));
             }
             return self.read_list(depth, place, false);
         }
         if self.takes("SET") {
             if self.is("{") {
-                let (span, is_open) = self.read_components(depth)?;
-                return self.put_type("", place, TypeSyntax::Set(span, is_open));
+                let row = self.read_components(depth)?;
+                return self.put_type("", place, TypeSyntax::Set(row));
             }
             return self.read_list(depth, place, true);
         }
         if self.takes("CHOICE") {
-            let (span, is_open) = self.read_components(depth)?;
-            return self.put_type("", place, TypeSyntax::Choice(span, is_open));
+            let row = self.read_components(depth)?;
+            return self.put_type("", place, TypeSyntax::Choice(row));
         }
         self.read_leaf(place)
     }

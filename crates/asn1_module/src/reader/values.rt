@@ -2,6 +2,7 @@
 
 use crate::mistake::{ModuleError, Place, Wrong};
 use crate::reader::Reader;
+use crate::scopes::check_distinct;
 use crate::syntax::{NamedNumber, Span, ValueEntry, ValueSyntax, put_all};
 use crate::tokens::{Token, TokenKind};
 
@@ -22,9 +23,25 @@ impl<'s, 't> Reader<'s, 't> {
         let module = self.module;
         self.syntax.values.push(ValueEntry {
             module,
+            governor: "",
             place,
             syntax,
         })?;
+        Ok(at)
+    }
+
+    /// Reads the value that a name is assigned to, behind the name. Its type, and what a macro puts there, is skipped.
+    pub(crate) fn read_assigned_value(&mut self) -> Result<usize, ModuleError> {
+        let governor = if self.is_kind(0, TokenKind::Reference) && self.is_at(1, "::=") {
+            self.word()
+        } else {
+            ""
+        };
+        self.skip_behind("::=")?;
+        let at = self.read_value()?;
+        if let Some(entry) = self.syntax.values.get_mut(at) {
+            entry.governor = governor;
+        }
         Ok(at)
     }
 
@@ -56,13 +73,7 @@ impl<'s, 't> Reader<'s, 't> {
     /// Reads a value that is not of a choice.
     fn read_value_syntax(&mut self) -> Result<ValueSyntax<'t>, ModuleError> {
         if self.is("{") {
-            let is_empty = self.is_at(1, "}");
-            self.skip_brackets()?;
-            return Ok(if is_empty {
-                ValueSyntax::Empty
-            } else {
-                ValueSyntax::Unread
-            });
+            return self.read_braces();
         }
         let is_negative = self.takes("-");
         let Some(token) = self.token(0) else {
@@ -80,6 +91,82 @@ impl<'s, 't> Reader<'s, 't> {
             TokenKind::Reference => self.read_value_word(token),
             _ => Err(self.expected("a value")),
         }
+    }
+
+    /// Reads a value in braces. One that is neither arcs nor names is not read.
+    fn read_braces(&mut self) -> Result<ValueSyntax<'t>, ModuleError> {
+        let before = self.at;
+        if let Some(syntax) = self.read_arcs()? {
+            return Ok(syntax);
+        }
+        self.at = before;
+        self.skip_brackets()?;
+        Ok(ValueSyntax::Unread)
+    }
+
+    /// Reads arcs, or names with commas between, or as far as there are such.
+    fn read_arcs(&mut self) -> Result<Option<ValueSyntax<'t>>, ModuleError> {
+        self.advance();
+        if self.takes("}") {
+            return Ok(Some(ValueSyntax::Empty));
+        }
+        let mut arcs = Vec::new(self.alloc);
+        let has_commas = self.is_at(1, ",");
+        for _ in 0..self.left() {
+            let Some(arc) = self.read_arc()? else {
+                break;
+            };
+            arcs.push(arc)?;
+            if self.takes("}") {
+                let span = put_all(&mut self.syntax.arcs, &arcs)?;
+                return Ok(Some(if has_commas {
+                    ValueSyntax::Names(span)
+                } else {
+                    ValueSyntax::Arcs(span)
+                }));
+            }
+            if has_commas && !self.takes(",") {
+                break;
+            }
+        }
+        Ok(None)
+    }
+
+    /// Reads an arc: a number, a name, or both, of which the number counts (X.680 32.3).
+    fn read_arc(&mut self) -> Result<Option<usize>, ModuleError> {
+        let place = self.place();
+        if self.is_kind(0, TokenKind::Identifier) && self.is_at(1, "(") {
+            self.advance();
+            self.advance();
+            let number = self.read_arc_value(place)?;
+            return Ok(if self.takes(")") { number } else { None });
+        }
+        self.read_arc_value(place)
+    }
+
+    /// Reads the value of an arc: a number, or the name of a value.
+    fn read_arc_value(&mut self, place: Place) -> Result<Option<usize>, ModuleError> {
+        let Some(token) = self.token(0) else {
+            return Ok(None);
+        };
+        let syntax = match token.kind {
+            TokenKind::Number => match number_of(token.octets) {
+                None => return Ok(None),
+                Some(number) => ValueSyntax::Integer(number),
+            },
+            TokenKind::Identifier => ValueSyntax::Reference(None, token.word()),
+            TokenKind::Reference => {
+                if !self.is_at(1, ".") || !self.is_kind(2, TokenKind::Identifier) {
+                    return Ok(None);
+                }
+                self.advance();
+                self.advance();
+                ValueSyntax::Reference(Some(token.word()), self.word())
+            }
+            _ => return Ok(None),
+        };
+        self.advance();
+        Ok(Some(self.put_value(place, syntax)?))
     }
 
     /// Goes behind the token of a value.
@@ -171,8 +258,18 @@ impl<'s, 't> Reader<'s, 't> {
             }
             self.expect(",")?;
         }
+        self.check_numbers(&list)?;
         let span = put_all(&mut self.syntax.numbers, &list)?;
         Ok((span, is_open || self.environment.extensible))
+    }
+
+    /// Tells whether named numbers have different names.
+    fn check_numbers(&self, list: &[NamedNumber<'t>]) -> Result<(), ModuleError> {
+        let mut names = Vec::new(self.alloc);
+        for named in list {
+            names.push((named.name, named.place))?;
+        }
+        check_distinct(self.alloc, &names)
     }
 
     /// Reads a named number.

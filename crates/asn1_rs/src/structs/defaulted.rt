@@ -9,7 +9,7 @@ ghost use Rattle.asn1_rs.specs.Laws.Structs.Defaults.{or_default_gives};
 ghost use Rattle.asn1_rs.specs.Structs.{by_der, by_ber, left_out_by};
 ghost use Rattle.asn1_rs.specs.Structs.Defaults.{default_writing, DefaultGives, OrDefault};
 ghost use Rattle.asn1_rs.specs.Structs.DefaultTypes.{LawfulDefaultOf, defaulted_field, defaulted_of, defaulted_lawful};
-ghost use Rattle.asn1_rs.specs.Structs.DefaultTypes.{defaulted_answers, IsTypeOf, default_bool, its_own_type};
+ghost use Rattle.asn1_rs.specs.Structs.DefaultTypes.{IsTypeOf, default_bool, its_own_type};
 
 use crate::laws::in_hand::AlwaysDer;
 use crate::laws::{Grammar, LawfulBer, LawfulDer, LawfulItem, LawfulTagged};
@@ -142,9 +142,6 @@ where
 
     ghost lawful_field = { defaulted_lawful (λ x. x.value) D.default_laws T.grammar (T.TAG).0 D.of_type };
 
-    ghost exact_field = { defaulted_answers (λ x. x.value) D.default_laws T.grammar (T.TAG).0 D.of_type
-        T.lawful_item by_der T.der_gives T.der_exact T.der_no_memory };
-
     #[inline(always)]
     #[tactic(auto, using(crate::specs::Laws::Structs::Defaults::or_default_gives))]
     fn read_field(alloc: Global, octets: &'a [u8]) -> ParseResult<'a, Defaulted<T, D>, Error> {
@@ -163,9 +160,6 @@ where
         D.default_laws.default (left_out_by (T.TAG).0 by_ber) T.ber_gives };
 
     ghost lawful_field = { defaulted_lawful (λ x. x.value) D.default_laws T.grammar (T.TAG).0 D.of_type };
-
-    ghost exact_field = { defaulted_answers (λ x. x.value) D.default_laws T.grammar (T.TAG).0 D.of_type
-        T.lawful_item by_ber T.ber_gives T.ber_exact T.ber_no_memory };
 
     #[inline(always)]
     #[tactic(auto, using(crate::specs::Laws::Structs::Defaults::or_default_gives))]

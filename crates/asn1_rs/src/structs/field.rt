@@ -1,12 +1,10 @@
 //! The fields of structs. The module says what a type says of itself where it is a field. It says how a field is read,
 //! and what is stated of one in hand.
-ghost use Rattle.std.specs.Prelude.{◌≡◌, [], ◌∷◌, ℕ, List, Result};
+ghost use Rattle.std.specs.Prelude.{◌≡◌, ℕ, List, Result};
 ghost use Rattle.asn1_headers.specs.declared.error.Err.{Err as Refusal};
 ghost use Rattle.asn1_headers.specs.declared.error.Error.{Error};
 ghost use Rattle.asn1_rs.specs.Any.{IsDefiniteOr, IsTheElement};
 ghost use Rattle.asn1_rs.specs.Traits.{BerGives, DerGives};
-ghost use Rattle.asn1_rs.specs.Laws.Structs.Readers.{item_answers, option_answers, any_answers_by_der, any_answers_by_ber};
-ghost use Rattle.asn1_rs.specs.Laws.Structs.Readers.{any_option_answers_by_der, any_option_answers_by_ber};
 ghost use Rattle.asn1_headers.specs.Answers.{seen};
 ghost use Rattle.asn1_rs.specs.Any.Value.{any_element};
 ghost use Rattle.asn1_rs.specs.Kinds.{item_grammar};
@@ -14,19 +12,19 @@ ghost use Rattle.asn1_rs.specs.Laws.Any.Value.{element_lawful};
 ghost use Rattle.asn1_rs.specs.Laws.Kinds.{lawful_item};
 ghost use Rattle.asn1_rs.specs.Optional.{IfHeld, IsAtEnd, OptionGives};
 ghost use Rattle.asn1_rs.specs.Laws.Structs.Fields.{IsLawfulField, item_field_lawful, optional_field_lawful, any_field_lawful, any_option_lawful};
-ghost use Rattle.asn1_rs.specs.Structs.{FieldGrammar, item_field, optional_field, any_number, among, left_out_among, left_out_at_end, by_der, by_ber};
+ghost use Rattle.asn1_rs.specs.Structs.{FieldGrammar, item_field, optional_field, any_number, left_out_among, left_out_at_end, by_der, by_ber};
+ghost use Rattle.asn1_rs.specs.Structs.Reading.{left_out_field, required_field};
 ghost use Rattle.asn1_rs.specs.Structs.Data.{ItemTypeOf, LawfulTypeOf, LawfulFieldOf, AnswersField, field_of, item_of, optional_of};
 
 use crate::asn1_types::any::Any;
 use crate::asn1_types::option::held;
+use crate::laws::LawfulItem;
 use crate::laws::in_hand::AlwaysDer;
-use crate::laws::{LawfulBer, LawfulDer, LawfulItem};
 use crate::structs::ReadsBy;
-use crate::structs::numbers::{ToldByNumber, is_left_out};
+use crate::structs::reading::ReadsType;
 use crate::traits::{FromBer, FromDer};
 use asn1_headers::content::{BerParser, DerParser};
 use asn1_headers::error::{Error, ParseResult};
-use asn1_headers::header::reading::{header_by_ber, header_by_der};
 use std::alloc::Global;
 
 /// A type that may be a field of a struct: its laws stand in one record, so that a row of fields can name them.
@@ -73,49 +71,60 @@ pub trait ReadsField<'a, P: ReadsBy>: Sized {
 
     /// The field, and what follows it.
     fn read_field(alloc: Global, octets: &'a [u8]) -> ParseResult<'a, Self, Error>
-        ensures { field_gives octets.now (seen result) };
+        ensures exact { AnswersField P.rules field_grammar octets.now (seen result) }
+        ensures gives { field_gives octets.now (seen result) };
 
     /// Octets give one value and leave one rest.
     ghost lawful_field: { IsLawfulField Self.field_grammar };
-
-    /// What reading may answer is exact by the grammar, and not out of memory where nothing allocates.
-    ghost exact_field: { (octets : List ℕ) (answer : Result (List ℕ × Self) (Refusal Error)) →
-        Self.field_gives octets answer → AnswersField P.rules Self.field_grammar octets answer };
 }
 
-impl<'a, T: LawfulType + LawfulDer<'a, Error> + ToldByNumber> ReadsField<'a, DerParser> for T {
-    ghost field_grammar = { item_field (among T.numbers) T.grammar };
+impl<'a, T: ReadsType<'a, P>, P: ReadsBy> ReadsField<'a, P> for T {
+    ghost field_grammar = { required_field T.numbered };
 
-    ghost field_gives = { T.der_gives };
+    ghost field_gives = { T.type_gives };
 
-    ghost lawful_field = { item_field_lawful T.numbers T.grammar T.lawful_item T.told_by_number };
-
-    ghost exact_field = { item_answers by_der T.grammar T.lawful_item T.der_gives T.der_exact T.der_no_memory
-        (among T.numbers) };
+    ghost lawful_field = { item_field_lawful T.numbered.numbers T.numbered.grammar
+        T.lawful_type.lawful T.lawful_type.begins };
 
     #[inline(always)]
     fn read_field(alloc: Global, octets: &'a [u8]) -> ParseResult<'a, T, Error> {
-        T::from_der(alloc, octets)
+        T::read_type(alloc, octets)
     }
 }
 
-impl<'a, T: LawfulType + LawfulDer<'a, Error> + ToldByNumber> ReadsField<'a, DerParser>
-    for Option<T> {
-    ghost field_grammar = { optional_field (among T.numbers) (left_out_among T.numbers) T.grammar };
+// One impl for each of the rules: with the parser as a parameter a crate above could give an `Option` a `ReadsType` by a
+// parser of its own.
+impl<'a, T: ReadsType<'a, DerParser>> ReadsField<'a, DerParser> for Option<T> {
+    ghost field_grammar = { left_out_field T.numbered };
 
-    ghost field_gives = { OptionGives (left_out_among T.numbers by_der) T.der_gives };
+    ghost field_gives = { OptionGives (left_out_among T.numbered.numbers by_der) T.type_gives };
 
-    ghost lawful_field = { optional_field_lawful T.numbers T.grammar T.lawful_item T.told_by_number };
-
-    ghost exact_field = { option_answers by_der T.grammar T.lawful_item T.der_gives T.der_exact T.der_no_memory
-        (among T.numbers) (left_out_among T.numbers) };
+    ghost lawful_field = { optional_field_lawful T.numbered.numbers T.numbered.grammar
+        T.lawful_type.lawful T.lawful_type.begins };
 
     #[inline(always)]
     fn read_field(alloc: Global, octets: &'a [u8]) -> ParseResult<'a, Option<T>, Error> {
-        if is_left_out::<T>(octets, header_by_der(octets)) {
+        if T::is_left_out(octets) {
             return Ok((octets, None));
         }
-        held(T::from_der(alloc, octets))
+        held(T::read_type(alloc, octets))
+    }
+}
+
+impl<'a, T: ReadsType<'a, BerParser>> ReadsField<'a, BerParser> for Option<T> {
+    ghost field_grammar = { left_out_field T.numbered };
+
+    ghost field_gives = { OptionGives (left_out_among T.numbered.numbers by_ber) T.type_gives };
+
+    ghost lawful_field = { optional_field_lawful T.numbered.numbers T.numbered.grammar
+        T.lawful_type.lawful T.lawful_type.begins };
+
+    #[inline(always)]
+    fn read_field(alloc: Global, octets: &'a [u8]) -> ParseResult<'a, Option<T>, Error> {
+        if T::is_left_out(octets) {
+            return Ok((octets, None));
+        }
+        held(T::read_type(alloc, octets))
     }
 }
 
@@ -127,9 +136,8 @@ impl<'a> ReadsField<'a, DerParser> for Any<'a> {
     ghost lawful_field = { any_field_lawful (item_grammar any_element)
         (lawful_item any_element element_lawful) };
 
-    ghost exact_field = { any_answers_by_der };
-
     #[inline(always)]
+    #[tactic(auto, using(crate::specs::Laws::Structs::Readers::any_answers_by_der))]
     fn read_field(alloc: Global, octets: &'a [u8]) -> ParseResult<'a, Any<'a>, Error> {
         Any::from_der(alloc, octets)
     }
@@ -143,47 +151,10 @@ impl<'a> ReadsField<'a, DerParser> for Option<Any<'a>> {
     ghost lawful_field = { any_option_lawful (item_grammar any_element)
         (lawful_item any_element element_lawful) };
 
-    ghost exact_field = { any_option_answers_by_der };
-
     #[inline(always)]
+    #[tactic(auto, using(crate::specs::Laws::Structs::Readers::any_option_answers_by_der))]
     fn read_field(alloc: Global, octets: &'a [u8]) -> ParseResult<'a, Option<Any<'a>>, Error> {
         Option::<Any<'a>>::from_der(alloc, octets)
-    }
-}
-
-impl<'a, T: LawfulType + LawfulBer<'a, Error> + ToldByNumber> ReadsField<'a, BerParser> for T {
-    ghost field_grammar = { item_field (among T.numbers) T.grammar };
-
-    ghost field_gives = { T.ber_gives };
-
-    ghost lawful_field = { item_field_lawful T.numbers T.grammar T.lawful_item T.told_by_number };
-
-    ghost exact_field = { item_answers by_ber T.grammar T.lawful_item T.ber_gives T.ber_exact T.ber_no_memory
-        (among T.numbers) };
-
-    #[inline(always)]
-    fn read_field(alloc: Global, octets: &'a [u8]) -> ParseResult<'a, T, Error> {
-        T::from_ber(alloc, octets)
-    }
-}
-
-impl<'a, T: LawfulType + LawfulBer<'a, Error> + ToldByNumber> ReadsField<'a, BerParser>
-    for Option<T> {
-    ghost field_grammar = { optional_field (among T.numbers) (left_out_among T.numbers) T.grammar };
-
-    ghost field_gives = { OptionGives (left_out_among T.numbers by_ber) T.ber_gives };
-
-    ghost lawful_field = { optional_field_lawful T.numbers T.grammar T.lawful_item T.told_by_number };
-
-    ghost exact_field = { option_answers by_ber T.grammar T.lawful_item T.ber_gives T.ber_exact T.ber_no_memory
-        (among T.numbers) (left_out_among T.numbers) };
-
-    #[inline(always)]
-    fn read_field(alloc: Global, octets: &'a [u8]) -> ParseResult<'a, Option<T>, Error> {
-        if is_left_out::<T>(octets, header_by_ber(octets)) {
-            return Ok((octets, None));
-        }
-        held(T::from_ber(alloc, octets))
     }
 }
 
@@ -195,9 +166,8 @@ impl<'a> ReadsField<'a, BerParser> for Any<'a> {
     ghost lawful_field = { any_field_lawful (item_grammar any_element)
         (lawful_item any_element element_lawful) };
 
-    ghost exact_field = { any_answers_by_ber };
-
     #[inline(always)]
+    #[tactic(auto, using(crate::specs::Laws::Structs::Readers::any_answers_by_ber))]
     fn read_field(alloc: Global, octets: &'a [u8]) -> ParseResult<'a, Any<'a>, Error> {
         Any::from_ber(alloc, octets)
     }
@@ -211,9 +181,8 @@ impl<'a> ReadsField<'a, BerParser> for Option<Any<'a>> {
     ghost lawful_field = { any_option_lawful (item_grammar any_element)
         (lawful_item any_element element_lawful) };
 
-    ghost exact_field = { any_option_answers_by_ber };
-
     #[inline(always)]
+    #[tactic(auto, using(crate::specs::Laws::Structs::Readers::any_option_answers_by_ber))]
     fn read_field(alloc: Global, octets: &'a [u8]) -> ParseResult<'a, Option<Any<'a>>, Error> {
         Option::<Any<'a>>::from_ber(alloc, octets)
     }

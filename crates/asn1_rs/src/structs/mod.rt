@@ -14,8 +14,11 @@
 pub(crate) mod defaulted;
 pub(crate) mod field;
 pub(crate) mod keys;
+pub(crate) mod leaves_by_ber;
+pub(crate) mod leaves_by_der;
 pub(crate) mod members;
 pub(crate) mod numbers;
+pub(crate) mod reading;
 pub(crate) mod row;
 pub(crate) mod types;
 pub(crate) mod untold;

@@ -1,11 +1,10 @@
 //! Rows of fields: pairs of a field and the row behind it, with `()` at the end.
 ghost use Rattle.std.specs.Prelude.{◌≡◌, ℕ, List, Result};
 ghost use Rattle.asn1_headers.specs.declared.error.Error.{Error};
-ghost use Rattle.asn1_rs.specs.Laws.Structs.Readers.{end_answers, row_answers};
 ghost use Rattle.asn1_rs.specs.Fields.{taken_in};
 ghost use Rattle.asn1_rs.specs.Structs.{RowGrammar, by_der, by_ber, empty_row, row_of, EndGives, RowGives, PutList, none_put, put_then, PutsAll};
 ghost use Rattle.asn1_rs.specs.Structs.{MadeOf};
-ghost use Rattle.asn1_rs.specs.Structs.Data.{LawfulRowOf, AnswersRow, end_row, then_row};
+ghost use Rattle.asn1_rs.specs.Structs.Data.{LawfulRowOf, AnswersField, AnswersRow, end_row, then_row};
 
 use crate::kinds::fields::Fields;
 use crate::structs::field::{FieldInHand, FieldIsDer, FieldType, ReadsField};
@@ -40,11 +39,8 @@ pub trait ReadsRow<'a, P: ReadsBy>: Sized {
     /// All fields, in their order. Refused as the first field that is refused, where one that is cut is an error
     /// `Incomplete`. Refused with `TrailingOctets` where octets are left behind the last one.
     fn read_row(alloc: Global, octets: &'a [u8]) -> Result<Self, Error>
-        ensures { row_gives octets.now result };
-
-    /// What reading may answer is exact by the grammar, and not out of memory where nothing allocates.
-    ghost exact_row: { (octets : List ℕ) (answer : Result Self Error) → Self.row_gives octets answer →
-        AnswersRow P.rules Self.row_grammar octets answer };
+        ensures answers { AnswersRow P.rules row_grammar octets.now result }
+        ensures gives { row_gives octets.now result };
 }
 
 /// Refuses octets that are left behind the last field.
@@ -62,9 +58,8 @@ impl<'a, P: ReadsBy> ReadsRow<'a, P> for () {
 
     ghost row_gives = { EndGives };
 
-    ghost exact_row = { end_answers P.rules };
-
     #[inline(always)]
+    #[tactic(auto, using(crate::specs::Laws::Structs::Readers::end_answers))]
     fn read_row(_alloc: Global, octets: &'a [u8]) -> Result<(), Error> {
         assert_end(octets)
     }
@@ -80,15 +75,27 @@ where
 
     ghost row_gives = { RowGives F.field_gives R.row_gives };
 
-    ghost exact_row = { row_answers P.rules F.field_grammar R.row_grammar F.lawful_field F.field_gives
-        R.row_gives F.exact_field R.exact_row };
-
     #[inline(always)]
+    #[tactic(auto, using(crate::specs::Laws::Structs::Readers::both_answer))]
     fn read_row(alloc: Global, octets: &'a [u8]) -> Result<(F, R), Error> {
-        let (rest, first) = F::read_field(alloc, octets)?;
-        let others = R::read_row(alloc, rest)?;
-        Ok((first, others))
+        read_both(alloc, octets)
     }
+}
+
+/// The first field, and the others behind it.
+#[inline(always)]
+fn read_both<'a, F, R, P>(alloc: Global, octets: &'a [u8]) -> Result<(F, R), Error>
+where
+    F: ReadsField<'a, P> + Drop,
+    R: ReadsRow<'a, P>,
+    P: ReadsBy,
+    ensures exact { RowGives (AnswersField P.rules F.field_grammar)
+        (AnswersRow P.rules R.row_grammar) octets.now result }
+    ensures gives { RowGives F.field_gives R.row_gives octets.now result }
+{
+    let (rest, first) = F::read_field(alloc, octets)?;
+    let others = R::read_row(alloc, rest)?;
+    Ok((first, others))
 }
 
 /// The row of fields that the octets are, by the rules of the parser.

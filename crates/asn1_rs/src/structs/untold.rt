@@ -6,7 +6,6 @@
 ghost use Rattle.asn1_headers.specs.Answers.{seen};
 ghost use Rattle.asn1_headers.specs.Header.{identifier_of};
 ghost use Rattle.asn1_rs.specs.Laws.Structs.Fields.{any_field_lawful, any_option_lawful};
-ghost use Rattle.asn1_rs.specs.Laws.Structs.Untold.{explicit_by_ber, explicit_by_der, implicit_by_ber, implicit_by_der};
 ghost use Rattle.asn1_rs.specs.Laws.Tagged.Headed.{explicit_headed_lawful, implicit_headed_lawful};
 ghost use Rattle.asn1_rs.specs.Optional.{IfHeld, IsAtEnd, OptionGives};
 ghost use Rattle.asn1_rs.specs.Structs.{any_number, item_field, left_out_at_end, optional_field};
@@ -60,9 +59,6 @@ impl<'a, T: LawfulDer<'a, Error> + Drop> ReadsField<'a, DerParser>
         (explicit_headed_lawful (λ t. identifier_of t.header) (λ t. t.inner) T.grammar
         T.lawful_item) };
 
-    ghost exact_field = { (explicit_by_der T.grammar T.lawful_item T.der_gives T.der_exact
-        T.der_no_memory).alone };
-
     fn read_field(
         alloc: Global,
         octets: &'a [u8],
@@ -83,9 +79,6 @@ impl<'a, T: LawfulDer<'a, Error> + Drop + 'a> ReadsField<'a, DerParser>
         (explicit_headed_lawful (λ t. identifier_of t.header) (λ t. t.inner) T.grammar
         T.lawful_item) };
 
-    ghost exact_field = { (explicit_by_der T.grammar T.lawful_item T.der_gives T.der_exact
-        T.der_no_memory).or_none };
-
     fn read_field(
         alloc: Global,
         octets: &'a [u8],
@@ -103,9 +96,6 @@ impl<'a, T: LawfulBer<'a, Error>> ReadsField<'a, BerParser>
     ghost lawful_field = { any_field_lawful ⟦<TaggedParser<'a, Explicit, T, Error> as Grammar>⟧.grammar
         (explicit_headed_lawful (λ t. identifier_of t.header) (λ t. t.inner) T.grammar
         T.lawful_item) };
-
-    ghost exact_field = { (explicit_by_ber T.grammar T.lawful_item T.ber_gives T.ber_exact
-        T.ber_no_memory).alone };
 
     fn read_field(
         alloc: Global,
@@ -127,9 +117,6 @@ impl<'a, T: LawfulBer<'a, Error> + 'a> ReadsField<'a, BerParser>
         (explicit_headed_lawful (λ t. identifier_of t.header) (λ t. t.inner) T.grammar
         T.lawful_item) };
 
-    ghost exact_field = { (explicit_by_ber T.grammar T.lawful_item T.ber_gives T.ber_exact
-        T.ber_no_memory).or_none };
-
     fn read_field(
         alloc: Global,
         octets: &'a [u8],
@@ -147,9 +134,6 @@ impl<'a, T: LawfulBody<'a, Error> + LawfulCheck + TakesEachClass> ReadsField<'a,
     ghost lawful_field = { any_field_lawful ⟦<TaggedParser<'a, Implicit, T, Error> as Grammar>⟧.grammar
         (implicit_headed_lawful (λ t. identifier_of t.header) (T.TAG).0 (λ t. t.inner) T.grammar
         T.lawful_item T.number_fits T.tag_number T.takes_each) };
-
-    ghost exact_field = { (implicit_by_der T.grammar T.lawful_item T.TAG T.number_fits T.tag_number
-        T.takes_each T.any_gives T.body_exact T.body_no_memory T.check_gives T.checks).alone };
 
     fn read_field(
         alloc: Global,
@@ -171,9 +155,6 @@ impl<'a, T: LawfulBody<'a, Error> + LawfulCheck + TakesEachClass + 'a> ReadsFiel
         (implicit_headed_lawful (λ t. identifier_of t.header) (T.TAG).0 (λ t. t.inner) T.grammar
         T.lawful_item T.number_fits T.tag_number T.takes_each) };
 
-    ghost exact_field = { (implicit_by_der T.grammar T.lawful_item T.TAG T.number_fits T.tag_number
-        T.takes_each T.any_gives T.body_exact T.body_no_memory T.check_gives T.checks).or_none };
-
     fn read_field(
         alloc: Global,
         octets: &'a [u8],
@@ -191,9 +172,6 @@ impl<'a, T: LawfulBody<'a, Error> + LawfulItem + TakesEachClass> ReadsField<'a, 
     ghost lawful_field = { any_field_lawful ⟦<TaggedParser<'a, Implicit, T, Error> as Grammar>⟧.grammar
         (implicit_headed_lawful (λ t. identifier_of t.header) (T.TAG).0 (λ t. t.inner) T.grammar
         T.lawful_item T.number_fits T.tag_number T.takes_each) };
-
-    ghost exact_field = { (implicit_by_ber T.grammar T.lawful_item T.TAG T.number_fits T.tag_number
-        T.takes_each T.any_gives T.body_exact T.body_no_memory).alone };
 
     fn read_field(
         alloc: Global,
@@ -214,9 +192,6 @@ impl<'a, T: LawfulBody<'a, Error> + LawfulItem + TakesEachClass + 'a> ReadsField
     ghost lawful_field = { any_option_lawful ⟦<TaggedParser<'a, Implicit, T, Error> as Grammar>⟧.grammar
         (implicit_headed_lawful (λ t. identifier_of t.header) (T.TAG).0 (λ t. t.inner) T.grammar
         T.lawful_item T.number_fits T.tag_number T.takes_each) };
-
-    ghost exact_field = { (implicit_by_ber T.grammar T.lawful_item T.TAG T.number_fits T.tag_number
-        T.takes_each T.any_gives T.body_exact T.body_no_memory).or_none };
 
     fn read_field(
         alloc: Global,

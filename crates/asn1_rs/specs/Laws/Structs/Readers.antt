@@ -1,12 +1,13 @@
 -- Readers of fields, of rows and of structs are exact.
-use Rattle.std.proofs.Common.{◌≡◌, ◌≢◌, refl, ℕ, false, List, inl, inr}
-use Rattle.std.specs.Prelude.{◌||◌, Option, Result, Ok, Err, IfErr}
+use Rattle.std.proofs.Common.{◌≡◌, ◌≢◌, ◌∙◌, sym, subst, refl, ℕ, Bool, true, false, List, [], ◌∷◌, inl, inr, IsTrue}
+use Rattle.std.specs.Prelude.{◌||◌, ◌↔◌, Option, Some, None, Result, Ok, Err, IfErr}
+use Rattle.std.proofs.lemmas.Bool.{false≢true}
 use Rattle.x690.specs.Octets.{IsOctets}
 use Rattle.x690.specs.Identifiers.{IsCutIdentifier}
 use Rattle.asn1_headers.specs.declared.error.Err.{Err as Refusal}
 use Rattle.asn1_headers.specs.declared.error.Error.{Error}
 use Rattle.asn1_headers.specs.declared.error.Error.TheVariants as errors
-use Rattle.asn1_headers.specs.Answers.{Exactly, IsOther, TellsMemory}
+use Rattle.asn1_headers.specs.Answers.{Exactly, Front, IsOther, TellsMemory}
 use Rattle.asn1_headers.specs.Error.{HeldIn}
 use Rattle.asn1_headers.specs.Header.Reading.{der_breach, ber_breach}
 use Rattle.x690.specs.Elements.{IsDerElement}
@@ -24,11 +25,13 @@ use Rattle.asn1_rs.specs.Any.Value.{any_element}
 use Rattle.asn1_rs.specs.Kinds.{item_grammar}
 use Rattle.asn1_headers.specs.Ber.{max_depth, EndsWithin}
 use Rattle.x690.specs.Nested.{IsElement, ElementFault}
-use Rattle.asn1_rs.specs.Optional.{IsAtEnd, OptionGives}
+use Rattle.asn1_rs.specs.Optional.{IsAtEnd, OptionGives, in_some}
 use Rattle.asn1_rs.specs.Traits.{BerGives, DerGives, PassesAll}
 use Rattle.asn1_rs.specs.Structs.{EncodingRules, by_der, by_ber, any_number, left_out_at_end, words_by, IsCutBy, FieldGrammar, RowGrammar}
+use Rattle.asn1_rs.specs.Structs.{among, OptionTakes, ReadsField}
 use Rattle.asn1_rs.specs.Structs.{Numbers, item_field, optional_field, empty_row, row_of, EndGives, RowGives, StructBody, StructGives}
 use Rattle.asn1_rs.specs.Structs.Data.{AnswersField, AnswersRow, AnswersAlso, LawfulStructOf, grammar_of_struct}
+use Rattle.asn1_rs.specs.Structs.Data.{field_of, struct_type}
 use Rattle.asn1_rs.specs.Laws.Structs.Fields.{IsLawfulField, item_reads, optional_reads, optional_no_memory}
 use Rattle.asn1_rs.specs.Laws.Structs.Rows.{row_reads, row_no_memory, or_neither, end_reads, end_no_memory}
 use Rattle.asn1_rs.specs.Laws.Structs.Structs.{struct_takes, struct_no_memory}
@@ -63,6 +66,50 @@ end_answers rules octets (Err e) g = record {
   exact = λ k. end_reads rules octets (Err e) k g;
   no_memory = λ none. end_no_memory octets e g;
 }
+
+-- So do both together, where each answers in the words of its grammar.
+pub both_answer : {S R : Type 0} (rules : EncodingRules) (F : FieldGrammar S) (G : RowGrammar R) → IsLawfulField F →
+    (octets : List ℕ) (answer : Result (S × R) Error) →
+    RowGives (AnswersField rules F) (AnswersRow rules G) octets answer → AnswersRow rules (row_of F G) octets answer
+both_answer rules F G f =
+    row_answers rules F G f (AnswersField rules F) (AnswersRow rules G) (λ o a g. g) (λ o a g. g)
+
+module _ {S : Type 0} (rules : EncodingRules) (G : ItemGrammar S) (numbers : Numbers)
+    (LeftOut : EncodingRules → List ℕ → Type 0) where
+  -- None with all octets is the answer of an optional field that is told to be left out.
+  pub none_answers : (octets : List ℕ) (told : Bool) → IsTrue told ↔ LeftOut rules octets → told ≡ true →
+      AnswersField rules (optional_field numbers LeftOut G) octets (Ok (octets, None))
+  none_answers octets told tells is = record { exact = λ k. (tells.0 is, refl); no_memory = λ none. tt }
+
+  nothing_held : (octets : List ℕ) → (LeftOut rules octets → ⊥) →
+      ((v : G.Value) (rest : List ℕ) → Front (words_by rules G) octets v rest → ⊥) →
+      (v : Option G.Value) (rest : List ℕ) → OptionTakes (LeftOut rules) (words_by rules G) octets v rest → ⊥
+  nothing_held octets stays none None rest t = stays t.0
+  nothing_held octets stays none (Some v) rest t = none v rest t.1
+
+  held_reads : (octets : List ℕ) (its : Result (List ℕ × S) (Refusal Error)) → (LeftOut rules octets → ⊥) →
+      ReadsField rules (item_field numbers G) octets its →
+      ReadsField rules (optional_field numbers LeftOut G) octets (in_some its)
+  held_reads octets (Ok x) stays f = (stays, f)
+  held_reads octets (Err r) stays (inl m) = inl m
+  held_reads octets (Err r) stays (inr none) = inr (nothing_held octets stays none)
+
+  held_answer : (octets : List ℕ) → (LeftOut rules octets → ⊥) →
+      (its : Result (List ℕ × S) (Refusal Error)) → AnswersField rules (item_field numbers G) octets its →
+      AnswersField rules (optional_field numbers LeftOut G) octets (in_some its)
+  held_answer octets stays (Ok x) a =
+      record { exact = λ k. held_reads octets (Ok x) stays (a.exact k); no_memory = λ none. tt }
+  held_answer octets stays (Err r) a =
+      record { exact = λ k. held_reads octets (Err r) stays (a.exact k); no_memory = a.no_memory }
+
+  -- And else the answer of the required field, in Some.
+  pub held_answers : (octets : List ℕ) (told : Bool) → IsTrue told ↔ LeftOut rules octets → told ≡ false →
+      (its : Result (List ℕ × S) (Refusal Error)) → AnswersField rules (item_field numbers G) octets its →
+      (answer : Result (List ℕ × Option S) (Refusal Error)) → answer ≡ in_some its →
+      AnswersField rules (optional_field numbers LeftOut G) octets answer
+  held_answers octets told tells stays its a answer is =
+      subst (AnswersField rules (optional_field numbers LeftOut G) octets) (sym is)
+      (held_answer octets (λ out. absurd (false≢true (sym stays ∙ tells.1 out))) its a)
 
 module _ {S : Type 0} (rules : EncodingRules) (G : ItemGrammar S) (l : IsLawfulItem G)
     (reads : List ℕ → Result (List ℕ × S) (Refusal Error) → Type 0)
@@ -183,3 +230,27 @@ module _ {T : Type 0} (X : LawfulStructOf T) (gives : List ℕ → Result T Erro
   struct_by_der_quiet none =
       element_no_memory IsDerElement DerElementFault der_breach der_breach_no_memory PassesAll
       (StructGives (AnswersAlso by_der X gives)) (λ (x y : Error). y ≡ x) all_pass (struct_quiet by_der X gives none)
+
+module _ {T : Type 0} (X : LawfulStructOf T) (gives : List ℕ → Result T Error → Type 0) where
+  -- The reader of a struct by DER answers as its required field does.
+  pub struct_answers_by_der : (octets : List ℕ) (answer : Result (List ℕ × T) (Refusal Error)) →
+      DerGives PassesAll (StructGives (AnswersAlso by_der X gives)) (λ (x y : Error). y ≡ x) octets answer →
+      AnswersField by_der (field_of (struct_type X)).grammar octets answer
+  struct_answers_by_der = item_answers by_der (grammar_of_struct X) ((struct_type X).lawful refl)
+      (DerGives PassesAll (StructGives (AnswersAlso by_der X gives)) (λ (x y : Error). y ≡ x))
+      (struct_by_der_exact X gives) (struct_by_der_quiet X gives) (among (16 ∷ []))
+
+  -- So does its reader by BER.
+  pub struct_answers_by_ber : (octets : List ℕ) (answer : Result (List ℕ × T) (Refusal Error)) →
+      BerGives (StructGives (AnswersAlso by_ber X gives)) (λ (x y : Error). y ≡ x) octets answer →
+      AnswersField by_ber (field_of (struct_type X)).grammar octets answer
+  struct_answers_by_ber = item_answers by_ber (grammar_of_struct X) ((struct_type X).lawful refl)
+      (BerGives (StructGives (AnswersAlso by_ber X gives)) (λ (x y : Error). y ≡ x))
+      (λ octets answer k. element_exact (IsElement max_depth) (ElementFault max_depth) EndsWithin ber_elements
+      ber_breach PassesAll (StructGives (AnswersAlso by_ber X gives)) (λ (x y : Error). y ≡ x) NoCheck
+      (StructBody (X.row.grammar.Takes by_ber)) (grammar_of_struct X).value (grammar_of_struct X).allocates
+      (ber_words (grammar_of_struct X)) passes_all (struct_exact by_ber X gives) (λ o v w. w) (λ o v w. w) octets
+      answer)
+      (λ none. element_no_memory (IsElement max_depth) (ElementFault max_depth) ber_breach ber_breach_no_memory
+      PassesAll (StructGives (AnswersAlso by_ber X gives)) (λ (x y : Error). y ≡ x) all_pass
+      (struct_quiet by_ber X gives none)) (among (16 ∷ []))

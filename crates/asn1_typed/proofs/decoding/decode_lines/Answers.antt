@@ -2,7 +2,7 @@ use Rattle.std.proofs.Common.{◌++◌, subst}
 use Rattle.std.specs.Io.KnownBytes.{Appends}
 use Rattle.asn1_schema.specs.Reading.{IsWordOf}
 use Rattle.asn1_typed.specs.Decodings.{DecodesNext}
-use Rattle.asn1_typed.proofs.Gains.{gained_twice}
+use Rattle.asn1_engine.proofs.Told.{told_twice}
 use Rattle.asn1_typed.proofs.NoValues.{one_front}
 use Rattle.asn1_typed.proofs.ValuesInRow.{rest_shorter, row_more}
 use Rattle.asn1_typed.proofs.decoding.decode_lines.Goals as goal
@@ -26,5 +26,5 @@ loop-left-preserved g c =
       i.0 ++ text,
       row_more c.args.by c.args.schema.now c.args.of c.args.input c.loop-left.left i.0 text e.0 c.in-Value.rest
           c.saturating_add.result i.1 e.1 e.2 c.saturating_add.ensures,
-      gained_twice (contents c.args.out.now) (contents c.loop-left.out) (contents c.write_all.new.self) i.0 text i.2 written,
+      told_twice (contents c.args.out.now) (contents c.loop-left.out) (contents c.write_all.new.self) i.0 text i.2 written,
     )
