@@ -1,7 +1,8 @@
 #!/usr/bin/env python3
-"""Writes the impls of `ReadsType` of the leaf types of `asn1_rs`, which no macro of the repository may write.
+"""Writes what no macro may write in `asn1_rs`: the impls of `ReadsType` and `WritesType` of leaf types, and flat calls.
 
-tools/leaves.py           writes them between the marker lines of `leaves_by_der.rt` and `leaves_by_ber.rt`
+tools/leaves.py           writes them between the marker lines of `structs/leaves_*.rt` and `structs/flat.rt`; then
+                          call `rt fmt`
 tools/leaves.py --check   status 1 where what stands there is not what it would write
 
 The leaf types are those without a parameter that have `LawfulType` in `structs/types.rt`.
@@ -33,6 +34,24 @@ impl<'a> ReadsType<'a, {parser}> for {leaf} {{
 """
 
 
+PUT = """\
+impl<'a> WritesType for {leaf} {{
+    ghost type_writing = {{ ⟦<{leaf} as LawfulType>⟧.type_laws.writing }};
+
+    ghost has_its_value = {{ HasItsValue ⟦<{leaf} as LawfulType>⟧.type_laws.grammar }};
+
+    #[inline(always)]
+    fn put_type(&self, fields: &mut Fields) -> SerializeResult<()> {{
+        fields.put(self)
+    }}
+
+    fn type_in_hand(&self) {{
+        self.has_value();
+    }}
+}}
+"""
+
+
 def leaves():
     """The leaf types, each with the lifetime of the octets that it is read from."""
     text = (STRUCTS / "types.rt").read_text(encoding="utf-8")
@@ -40,21 +59,105 @@ def leaves():
         yield re.sub(r"^&(?=\S)", "&'a ", name.replace("'_", "'a"))
 
 
-def written(rules):
-    """The file of these rules, with the impls between its marker lines."""
-    path = STRUCTS / f"leaves_by_{rules.lower()}.rt"
+def read(rules, leaf):
+    """The impl by which a leaf type is read by the rules."""
+    return IMPL.format(parser=f"{rules}Parser", rules=rules, low=rules.lower(), leaf=leaf)
+
+
+def put(leaf):
+    """The impl by which it is written."""
+    text = PUT.format(leaf=leaf)
+    return text if "'a" in leaf else text.replace("impl<'a>", "impl")
+
+
+def written(name, parts):
+    """The file of this name, with the parts between its marker lines."""
+    path = STRUCTS / f"{name}.rt"
     head, rest = path.read_text(encoding="utf-8").split(BEGIN)
-    impls = []
-    for leaf in leaves():
-        impls.append(IMPL.format(parser=f"{rules}Parser", rules=rules, low=rules.lower(), leaf=leaf))
-    return path, head + BEGIN + "\n".join(impls) + END + rest.split(END)[1]
+    return path, head + BEGIN + "\n".join(parts) + END + rest.split(END)[1]
+
+
+LETTERS = "ABCDEFGHIJKLMNOP"
+
+
+def clause(word, parts, end):
+    """A clause of at most 100 columns a line, in braces."""
+    lines = [f"    {word} {{"]
+    for part in [*parts, end]:
+        if len(lines[-1]) + len(part) > 96:
+            lines.append("       ")
+        lines[-1] += f" {part}"
+    return "\n".join(lines) + " }"
+
+
+def of_fields(count, trait):
+    """The type parameters and the parameters of so many fields."""
+    names = LETTERS[:count]
+    return ", ".join(f"{it}: {trait}" for it in names), ", ".join(f"{it.lower()}: &{it}" for it in names)
+
+
+def puts(count):
+    """The function that puts so many fields."""
+    bounds, values = of_fields(count, "WritesField")
+    others = f"put{count - 1}({''.join(f'{it.lower()}, ' for it in LETTERS[1:count])}fields)"
+    parts = ["PutsRow", *(f"(put_then {it}.field_writing {it.lower()}.now" for it in LETTERS[:count])]
+    end = "none_put" + ")" * count
+    said = clause("ensures", [*parts, end, "(taken_in fields.old)", "(taken_in fields.new)"], "result")
+    return f"""\
+/// Puts the fields: in their order, or from the last to the first where they are put before the octets of a buffer.
+#[inline(always)]
+#[tactic(auto, using(crate::specs::Laws::Structs::Puts::both_ways))]
+pub fn put{count}<{bounds}>({values}, fields: &mut Fields) -> SerializeResult<()>
+{said}
+{{
+    if fields.goes_back() {{
+        return match {others} {{
+            Ok(()) => a.put_field(fields),
+            Err(e) => Err(e),
+        }};
+    }}
+    match a.put_field(fields) {{
+        Ok(()) => {others},
+        Err(e) => Err(e),
+    }}
+}}
+"""
+
+
+def states(count, name, trait, call, word, what):
+    """The function that states something of each of so many fields."""
+    bounds, values = of_fields(count, trait)
+    said = clause("ensures", [f"{it}.{word} {it.lower()}.now ×" for it in LETTERS[:count]], "Unit {0}")
+    calls = "".join(f"    {it.lower()}.{call}();\n" for it in LETTERS[:count])
+    return f"/// States of the fields in hand that {what}.\npub fn {name}{count}<{bounds}>({values})\n{said}\n{{\n{calls}}}\n"
+
+
+FILES = {
+    "leaves_by_der": lambda: [read("Der", leaf) for leaf in leaves()],
+    "leaves_by_ber": lambda: [read("Ber", leaf) for leaf in leaves()],
+    "leaves_put": lambda: [put(leaf) for leaf in leaves()],
+    "flat/puts": lambda: [puts(count) for count in range(1, 17)],
+    "flat/in_hand": lambda: [
+        states(count, "in_hand", "WritesField", "field_in_hand", "has_a_value", "their values are those of their types")
+        for count in range(1, 17)
+    ],
+    "flat/in_der": lambda: [
+        states(count, "in_der", "FieldIsDer", "field_is_der", "is_in_der", "their values are in DER form")
+        for count in range(1, 17)
+    ],
+}
+
+
+def squeezed(text):
+    """The text without what `rt fmt` changes."""
+    return re.sub(r",(?=[)}>])", "", re.sub(r"\s+", "", text))
 
 
 def main():
     stale = 0
-    for rules in ("Der", "Ber"):
-        path, text = written(rules)
-        if text == path.read_text(encoding="utf-8"):
+    for name, parts in FILES.items():
+        path, text = written(name, parts())
+        if squeezed(text) == squeezed(path.read_text(encoding="utf-8")):
             continue
         stale += 1
         if "--check" in sys.argv:

@@ -35,3 +35,4 @@ pub mod Choices
 pub mod Whole
 pub mod Callers
 pub mod Laws
+pub mod Prelude

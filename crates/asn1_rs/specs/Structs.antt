@@ -3,6 +3,7 @@
 pub mod Data
 pub mod Defaults
 pub mod DefaultTypes
+pub mod Flat
 pub mod Keys
 pub mod Members
 pub mod PartsOfRows

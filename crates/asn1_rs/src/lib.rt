@@ -9,7 +9,7 @@
 //!   written as they are. [`Integer`], [`BitString`], [`OctetString`], [`Oid`], [`UtcTime`], [`GeneralizedTime`], the
 //!   strings, [`SequenceOf`] and [`SetOf`] are types of the crate.
 //! - [`TaggedExplicit`], [`TaggedImplicit`] and their kin are values under a tag.
-//! - [`LawfulStruct`] and [`LawfulChoice`] make a struct or an enum of yours such a type.
+//! - [`author`] has what makes a struct or an enum of yours such a type, [`laws`] what proofs of callers cite.
 //!
 //! A caller states what it knows in one line:
 //!
@@ -31,314 +31,91 @@
 #![tactic(auto)]
 
 mod asn1_types;
+pub mod author;
 mod ber;
 mod choices;
 mod der;
 mod field_reader;
 mod header;
 mod kinds;
-mod laws;
+pub mod laws;
 mod length;
+mod macros;
 mod structs;
 mod to_der;
 mod to_static;
 mod traits;
 mod whole;
 
-pub use asn1_headers::ber::Steps;
+// reading and writing
+pub use crate::ber::{MAX_RECURSION, any_from_ber_counted};
+pub use crate::field_reader::FieldReader;
+pub use crate::laws::{read_ber, read_der, strict_vec, write_strict};
+pub use crate::to_der::ToDer;
+pub use crate::to_static::ToStatic;
+pub use crate::traits::{
+    ASN1Parser, BerChoice, CheckDerConstraints, Choice, DerAutoDerive, DerChoice, DynTagged,
+    FromAny, FromBer, FromDer, Tagged,
+};
+pub use crate::whole::{from_ber_whole, from_der_whole, read_ber_whole, read_der_whole};
 pub use asn1_headers::buffer::DerBuffer;
-pub use asn1_headers::buffer::prepend_behind;
-pub use asn1_headers::buffer::prepend_octets;
+pub use asn1_headers::content::{BerParser, DerParser, GetObjectContent};
+pub use asn1_headers::writer::{DerWrite, Told};
+
+// errors
+pub use crate::asn1_types::oid::making::OidParseError;
 pub use asn1_headers::class::BerClassFromIntError;
+pub use asn1_headers::error::{
+    DerConstraint, Err, Error, IResult, Needed, ParseResult, SerializeError, SerializeResult,
+    from_nom_error,
+};
+pub use asn1_headers::message::Message;
+
+// elements and their headers
+pub use crate::asn1_types::any::Any;
+pub use crate::asn1_types::end_of_content::EndOfContent;
+pub use asn1_headers::ber::Steps;
 pub use asn1_headers::class::Class;
-pub use asn1_headers::class::classes_are_numbered;
-pub use asn1_headers::content::BerParser;
-pub use asn1_headers::content::DerParser;
-pub use asn1_headers::content::GetObjectContent;
-pub use asn1_headers::error::DerConstraint;
-pub use asn1_headers::error::Err;
-pub use asn1_headers::error::Error;
-pub use asn1_headers::error::IResult;
-pub use asn1_headers::error::Needed;
-pub use asn1_headers::error::ParseResult;
-pub use asn1_headers::error::SerializeError;
-pub use asn1_headers::error::SerializeResult;
-pub use asn1_headers::error::from_nom_error;
-pub use asn1_headers::error::refusal_of_count;
 pub use asn1_headers::header::Header;
 pub use asn1_headers::length::Length;
-pub use asn1_headers::message::Message;
 pub use asn1_headers::tag::Tag;
-pub use asn1_headers::tag::universal_types_are_numbered;
-pub use asn1_headers::writer::DerWrite;
-pub use asn1_headers::writer::Told;
-pub use asn1_headers::writer::add_written;
-pub use asn1_headers::writer::put_all;
-pub use asn1_types::any::Any;
-pub use asn1_types::any::texts::any_texts_have_one_refusal;
-pub use asn1_types::bit_string::BitString;
-pub use asn1_types::boolean::Boolean;
-pub use asn1_types::boolean::truth_constants_are_octets;
-pub use asn1_types::embedded_pdv::EmbeddedPdv;
-pub use asn1_types::embedded_pdv::PdvIdentification;
-pub use asn1_types::embedded_pdv::pdvs_have_one_refusal;
-pub use asn1_types::end_of_content::EndOfContent;
-pub use asn1_types::enumerated::Enumerated;
-pub use asn1_types::integer::integers_have_one_refusal;
-pub use asn1_types::integer::machine::MachineInt;
-pub use asn1_types::integer::octets::Integer;
-pub use asn1_types::kept::Kept;
-pub use asn1_types::kept::kinds::KeptKind;
-pub use asn1_types::kept::kinds::Sequence;
-pub use asn1_types::kept::kinds::SequenceMark;
-pub use asn1_types::kept::kinds::Set;
-pub use asn1_types::kept::kinds::SetMark;
-pub use asn1_types::lists::FromItems;
-pub use asn1_types::lists::lists_are_joined_words;
-pub use asn1_types::null::Null;
-pub use asn1_types::numbers_of_borrowed_types;
-pub use asn1_types::octet_string::OctetString;
-pub use asn1_types::oid::Oid;
-pub use asn1_types::oid::iterator::SubIdentifierIterator;
-pub use asn1_types::oid::making::OidParseError;
-pub use asn1_types::oid::relative::identifiers_have_one_refusal;
-pub use asn1_types::option::TagRefusal;
-pub use asn1_types::option::optional_elements_are_refused;
-pub use asn1_types::option::options_are_left_out_by_ber;
-pub use asn1_types::option::options_are_left_out_by_der;
-pub use asn1_types::option::options_are_read_back_by_ber;
-pub use asn1_types::option::options_are_read_back_by_der;
-pub use asn1_types::option::options_are_refused_by_ber;
-pub use asn1_types::option::options_are_refused_by_der;
-pub use asn1_types::sequence::iterator::ReadsItems;
-pub use asn1_types::sequence::iterator::ReadsWords;
-pub use asn1_types::sequence::iterator::SequenceIterator;
-pub use asn1_types::sequence::iterator::SetIterator;
-pub use asn1_types::sequence::iterator::indefinite_contents_are_walked;
-pub use asn1_types::sequence::iterator::items_are_joined_words;
-pub use asn1_types::sequence::iterator::walks_end;
-pub use asn1_types::sequence::iterator::walks_take_words;
-pub use asn1_types::sequence::sequence_of::SequenceOf;
-pub use asn1_types::sequence::sequence_of::sequences_are_equal_in_order;
-pub use asn1_types::set::set_of::SetOf;
-pub use asn1_types::set::set_of::sets_are_equal_in_order;
-pub use asn1_types::strings::Coded;
-pub use asn1_types::strings::CodedString;
-pub use asn1_types::strings::InPlace;
-pub use asn1_types::strings::RestrictedString;
-pub use asn1_types::strings::TestValidCharset;
-pub use asn1_types::strings::decoded::coded_strings_have_one_refusal;
-pub use asn1_types::strings::in_place::strings_have_one_refusal;
-pub use asn1_types::strings::kinds::BmpKind;
-pub use asn1_types::strings::kinds::BmpString;
-pub use asn1_types::strings::kinds::DescriptorKind;
-pub use asn1_types::strings::kinds::GeneralKind;
-pub use asn1_types::strings::kinds::GeneralString;
-pub use asn1_types::strings::kinds::GraphicKind;
-pub use asn1_types::strings::kinds::GraphicString;
-pub use asn1_types::strings::kinds::Ia5Kind;
-pub use asn1_types::strings::kinds::Ia5String;
-pub use asn1_types::strings::kinds::NumericKind;
-pub use asn1_types::strings::kinds::NumericString;
-pub use asn1_types::strings::kinds::ObjectDescriptor;
-pub use asn1_types::strings::kinds::PrintableKind;
-pub use asn1_types::strings::kinds::PrintableString;
-pub use asn1_types::strings::kinds::Repertoire;
-pub use asn1_types::strings::kinds::StringKind;
-pub use asn1_types::strings::kinds::TeletexKind;
-pub use asn1_types::strings::kinds::TeletexString;
-pub use asn1_types::strings::kinds::Unicode;
-pub use asn1_types::strings::kinds::UniversalKind;
-pub use asn1_types::strings::kinds::UniversalString;
-pub use asn1_types::strings::kinds::Utf8Kind;
-pub use asn1_types::strings::kinds::Utf8String;
-pub use asn1_types::strings::kinds::VideotexKind;
-pub use asn1_types::strings::kinds::VideotexString;
-pub use asn1_types::strings::kinds::VisibleKind;
-pub use asn1_types::strings::kinds::VisibleString;
-pub use asn1_types::strings::kinds::numbers_of_coded_strings;
-pub use asn1_types::strings::kinds::numbers_of_strings;
-pub use asn1_types::tagged::ApplicationExplicit;
-pub use asn1_types::tagged::ApplicationImplicit;
-pub use asn1_types::tagged::Explicit;
-pub use asn1_types::tagged::Implicit;
-pub use asn1_types::tagged::OptTaggedExplicit;
-pub use asn1_types::tagged::OptTaggedImplicit;
-pub use asn1_types::tagged::PrivateExplicit;
-pub use asn1_types::tagged::PrivateImplicit;
-pub use asn1_types::tagged::TagKind;
-pub use asn1_types::tagged::TagMark;
-pub use asn1_types::tagged::TaggedExplicit;
-pub use asn1_types::tagged::TaggedImplicit;
-pub use asn1_types::tagged::TaggedValue;
-pub use asn1_types::tagged::builder::TaggedParserBuilder;
-pub use asn1_types::tagged::builder::parse_der_tagged_explicit;
-pub use asn1_types::tagged::builder::parse_der_tagged_implicit;
-pub use asn1_types::tagged::classes_of_tags;
-pub use asn1_types::tagged::helpers::parse_der_tagged_explicit_g;
-pub use asn1_types::tagged::helpers::parse_der_tagged_implicit_g;
-pub use asn1_types::tagged::optional::OptTaggedParser;
-pub use asn1_types::tagged::parser::AsTaggedExplicit;
-pub use asn1_types::tagged::parser::AsTaggedImplicit;
-pub use asn1_types::tagged::parser::TaggedParser;
-pub use asn1_types::texts::numbers_of_texts;
-pub use asn1_types::texts::texts_have_one_refusal;
-pub use asn1_types::times::ASN1DateTime;
-pub use asn1_types::times::ASN1TimeZone;
-pub use asn1_types::times::generalized_time::GeneralizedTime;
-pub use asn1_types::times::order_of_generalized_times;
-pub use asn1_types::times::order_of_times;
-pub use asn1_types::times::order_of_utc_times;
-pub use asn1_types::times::times_have_one_refusal;
-pub use asn1_types::times::utc_time::UtcTime;
-pub use ber::MAX_RECURSION;
-pub use ber::any_from_ber_counted;
-pub use choices::ChecksChoice;
-pub use choices::ChoiceKind;
-pub use choices::ChoiceReader;
-pub use choices::LawfulChoice;
-pub use choices::OfArms;
-pub use choices::ReadsChoice;
-pub use choices::ReadsChoiceByBer;
-pub use choices::arms::ArmNumbers;
-pub use choices::arms::Arms;
-pub use choices::arms::Never;
-pub use choices::arms::Or;
-pub use choices::arms::OrTagged;
-pub use choices::arms::OrUniversal;
-pub use choices::arms::ReadsArms;
-pub use choices::arms::TakesArms;
-pub use choices::check_element;
-pub use choices::choice_by_der;
-pub use choices::choice_of_element;
-pub use choices::writing::UsesArm;
-pub use field_reader::FieldReader;
-pub use kinds::ElementKind;
-pub use kinds::HasKind;
-pub use kinds::HolderKind;
-pub use kinds::Holds;
-pub use kinds::LawfulConversion;
-pub use kinds::LawfulElement;
-pub use kinds::TagNumber;
-pub use kinds::TaggedAs;
-pub use kinds::collections::CollectionKind;
-pub use kinds::collections::Once;
-pub use kinds::collections::Repeats;
-pub use kinds::collections::SequenceKind;
-pub use kinds::collections::SetKind;
-pub use kinds::fields::Fields;
-pub use kinds::fields::FieldsKind;
-pub use kinds::in_hand::AlwaysDerBy;
-pub use kinds::in_hand::DerElement;
-pub use kinds::leaf::ConvertsLeaf;
-pub use kinds::leaf::LeafType;
-pub use kinds::reading::AnyForm;
-pub use kinds::reading::CheckBy;
-pub use kinds::reading::ConstructedForm;
-pub use kinds::reading::ElementReader;
-pub use kinds::reading::EncodingForm;
-pub use kinds::reading::FromAnyBy;
-pub use kinds::reading::FromDerBy;
-pub use kinds::reading::HasReader;
-pub use kinds::reading::LawfulBodyBy;
-pub use kinds::reading::LawfulCheckBy;
-pub use kinds::reading::LawfulDerBy;
-pub use kinds::reading::ListReader;
-pub use kinds::writing::Piece;
-pub use kinds::writing::WritesElement;
-pub use kinds::writing::WritesOctets;
-pub use laws::Grammar;
-pub use laws::LawfulAuto;
-pub use laws::LawfulBer;
-pub use laws::LawfulBody;
-pub use laws::LawfulCheck;
-pub use laws::LawfulDer;
-pub use laws::LawfulItem;
-pub use laws::LawfulMember;
-pub use laws::LawfulTagged;
-pub use laws::LawfulWrite;
-pub use laws::TakesClass;
-pub use laws::answers_last;
-pub use laws::any_is_the_element;
-pub use laws::beginnings_are_incomplete;
-pub use laws::elements_by_der_are_written_again;
-pub use laws::faults::cuts_of_explicit_parsers_are_counted;
-pub use laws::faults::cuts_of_implicit_parsers_are_counted;
-pub use laws::faults::faults_come_first_by_ber;
-pub use laws::faults::faults_come_first_by_der;
-pub use laws::faults::faults_of_lists_come_first;
-pub use laws::faults::faults_of_tags_come_first;
-pub use laws::functions::beginnings_are_refused;
-pub use laws::functions::check_is_exact;
-pub use laws::functions::conversion_is_exact;
-pub use laws::functions::counts_are_of_the_strict_encoding;
-pub use laws::functions::equal_items_are_hashed_alike;
-pub use laws::functions::leaves_have_one_refusal;
-pub use laws::functions::reader_is_exact_by_ber;
-pub use laws::functions::reader_is_exact_by_der;
-pub use laws::functions::strict_fronts_are_written_again;
-pub use laws::functions::strict_parts_are_read;
-pub use laws::functions::strict_parts_have_the_number;
-pub use laws::functions::strict_parts_take_the_class;
-pub use laws::functions::words_and_values_are_unique;
-pub use laws::functions::written_values_are_read_back_by_ber;
-pub use laws::functions::written_values_are_read_back_by_der;
-pub use laws::in_hand::AlwaysDer;
-pub use laws::in_hand::members_in_hand;
-pub use laws::in_hand::octets_in_hand;
-pub use laws::in_hand::text_in_hand;
-pub use laws::one_refusal;
-pub use laws::read_ber;
-pub use laws::read_der;
-pub use laws::strict_vec;
-pub use laws::write_strict;
-pub use structs::LawfulStruct;
-pub use structs::OfRow;
-pub use structs::ReadsBy;
-pub use structs::ReadsFields;
-pub use structs::ReadsFieldsByBer;
-pub use structs::StructReader;
-pub use structs::defaulted::DefaultFalse;
-pub use structs::defaulted::DefaultOf;
-pub use structs::defaulted::Defaulted;
-pub use structs::field::FieldInHand;
-pub use structs::field::FieldIsDer;
-pub use structs::field::FieldType;
-pub use structs::field::ItemType;
-pub use structs::field::LawfulType;
-pub use structs::field::ReadsField;
-pub use structs::keys::KeyType;
-pub use structs::members::MemberRow;
-pub use structs::members::MemberType;
-pub use structs::numbers::ToldByNumber;
-pub use structs::reading::FieldsByLaws;
-pub use structs::reading::LeafField;
-pub use structs::reading::ReadsType;
-pub use structs::reading::ReadsTypeBy;
-pub use structs::row::BorrowedRow;
-pub use structs::row::DerRow;
-pub use structs::row::ReadsRow;
-pub use structs::row::Row;
-pub use structs::row::row_by_ber;
-pub use structs::row::row_by_der;
-pub use structs::row::struct_by_ber;
-pub use structs::row::struct_by_der;
-pub use to_der::ToDer;
-pub use to_static::ToStatic;
-pub use traits::ASN1Parser;
-pub use traits::BerChoice;
-pub use traits::CheckDerConstraints;
-pub use traits::Choice;
-pub use traits::DerAutoDerive;
-pub use traits::DerChoice;
-pub use traits::DynTagged;
-pub use traits::FromAny;
-pub use traits::FromBer;
-pub use traits::FromDer;
-pub use traits::Tagged;
-pub use whole::from_ber_whole;
-pub use whole::from_der_whole;
-pub use whole::read_ber_whole;
-pub use whole::read_der_whole;
-pub use x690::characters::CharacterCode;
+
+// types
+pub use crate::asn1_types::bit_string::BitString;
+pub use crate::asn1_types::boolean::Boolean;
+pub use crate::asn1_types::embedded_pdv::{EmbeddedPdv, PdvIdentification};
+pub use crate::asn1_types::enumerated::Enumerated;
+pub use crate::asn1_types::integer::octets::Integer;
+pub use crate::asn1_types::kept::kinds::{Sequence, Set};
+pub use crate::asn1_types::null::Null;
+pub use crate::asn1_types::octet_string::OctetString;
+pub use crate::asn1_types::oid::Oid;
+pub use crate::asn1_types::oid::iterator::SubIdentifierIterator;
+pub use crate::asn1_types::sequence::iterator::{SequenceIterator, SetIterator};
+pub use crate::asn1_types::sequence::sequence_of::SequenceOf;
+pub use crate::asn1_types::set::set_of::SetOf;
+pub use crate::asn1_types::strings::TestValidCharset;
+pub use crate::asn1_types::strings::kinds::{
+    BmpString, GeneralString, GraphicString, Ia5String, NumericString, ObjectDescriptor,
+    PrintableString, TeletexString, UniversalString, Utf8String, VideotexString, VisibleString,
+};
+pub use crate::asn1_types::times::generalized_time::GeneralizedTime;
+pub use crate::asn1_types::times::utc_time::UtcTime;
+pub use crate::asn1_types::times::{ASN1DateTime, ASN1TimeZone};
+pub use crate::structs::defaulted::{DefaultFalse, Defaulted};
 pub use x690::times::text::ShownText;
+
+// values under tags
+pub use crate::asn1_types::tagged::builder::{
+    TaggedParserBuilder, parse_der_tagged_explicit, parse_der_tagged_implicit,
+};
+pub use crate::asn1_types::tagged::helpers::{
+    parse_der_tagged_explicit_g, parse_der_tagged_implicit_g,
+};
+pub use crate::asn1_types::tagged::optional::OptTaggedParser;
+pub use crate::asn1_types::tagged::parser::{AsTaggedExplicit, AsTaggedImplicit, TaggedParser};
+pub use crate::asn1_types::tagged::{
+    ApplicationExplicit, ApplicationImplicit, Explicit, Implicit, OptTaggedExplicit,
+    OptTaggedImplicit, PrivateExplicit, PrivateImplicit, TaggedExplicit, TaggedImplicit,
+    TaggedValue,
+};

@@ -3,9 +3,8 @@ ghost use Rattle.std.specs.Prelude.{◌<◌, length, IfOk};
 
 use crate::failure::Failure;
 use crate::sums::Summed;
-use asn1_rs::{
-    ASN1Parser, Any, BerParser, DerParser, Error, Oid, ParseResult, ReadsItems, ToDer, Told,
-};
+use asn1_rs::author::ReadsItems;
+use asn1_rs::{ASN1Parser, Any, BerParser, DerParser, Error, Oid, ParseResult, ToDer, Told};
 use std::alloc::Global;
 use std::marker::PhantomData;
 use std::mem;

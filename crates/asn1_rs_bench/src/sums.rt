@@ -1,8 +1,7 @@
 //! What a value adds to the check of a workload.
 
-use asn1_rs::{
-    ASN1DateTime, Any, GeneralizedTime, OctetString, Oid, RestrictedString, SetOf, UtcTime,
-};
+use asn1_rs::author::RestrictedString;
+use asn1_rs::{ASN1DateTime, Any, GeneralizedTime, OctetString, Oid, SetOf, UtcTime};
 use asn1_rs_kerberos::AsReq;
 use x509_name::{AttributeTypeAndValue, Name, RelativeDistinguishedName};
 

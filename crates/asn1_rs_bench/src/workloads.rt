@@ -5,10 +5,11 @@ use crate::nested::{EightDeep, SixtyFourDeep, ThirtyTwoDeep};
 use crate::rounds::{Outcome, Rounds};
 use crate::rows::{Kept, arcs_of_row, read_row, texts_of_row, values_of, walk, write_row};
 use crate::sums::Summed;
+use asn1_rs::author::ReadsItems;
 use asn1_rs::{
     Any, BerParser, BitString, BmpString, DerParser, Error, GeneralizedTime, Ia5String,
-    NumericString, OctetString, Oid, PrintableString, ReadsItems, SetOf, ToDer, UniversalString,
-    UtcTime, Utf8String,
+    NumericString, OctetString, Oid, PrintableString, SetOf, ToDer, UniversalString, UtcTime,
+    Utf8String,
 };
 use asn1_rs_kerberos::AsReq;
 use std::alloc::Global;

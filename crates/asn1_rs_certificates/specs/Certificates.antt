@@ -1,8 +1,7 @@
 -- Certificates.
 use Rattle.std.specs.Prelude.{◌≡◌, ◌⊎◌, ◌+◌, ◌<◌, ◌≤◌, ℕ, codes}
 use Rattle.std.specs.Prelude.{IsSome, option_map}
-use Rattle.asn1_headers.specs.declared.error.Error.{Error}
-use Rattle.asn1_headers.specs.Error.{IsInvalidValue}
+use Rattle.asn1_rs.specs.Prelude.{Error, IsInvalidValue}
 use Rattle.asn1_rs.specs.Any.Value.{element_of}
 use Rattle.asn1_rs.specs.Oid.{oid_value}
 use Rattle.asn1_rs_certificates.specs.declared.added.Added.{Added}

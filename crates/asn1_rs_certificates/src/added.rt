@@ -1,10 +1,10 @@
 //! The last three fields of what is signed, as a part of its row. Later versions added them.
-ghost use Rattle.asn1_rs.specs.Structs.{by_der, puts_of};
+ghost use Rattle.asn1_rs.specs.Prelude.{by_der, part_of, PartGives, puts_of};
 ghost use Rattle.asn1_rs_certificates.specs.Certificates.{added_of};
-ghost use Rattle.asn1_rs.specs.Structs.PartsOfRows.{PartGives, part_of};
 
 use crate::{Extensions, IssuerUniqueId, SubjectUniqueId, TbsCertificate};
-use asn1_rs::{BorrowedRow, DerParser, Error, Fields, ReadsRow, Row, SerializeResult, row_by_der};
+use asn1_rs::author::{BorrowedRow, Fields, ReadsRow, Row, row_by_der};
+use asn1_rs::{DerParser, Error, SerializeResult};
 use std::alloc::Global;
 
 /// The fields from the identifier of the issuer on.

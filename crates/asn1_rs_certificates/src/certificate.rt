@@ -1,16 +1,15 @@
 //! A certificate whole (RFC 5280, 4.1).
-ghost use Rattle.std.proofs.Common.{refl};
-ghost use Rattle.asn1_headers.specs.Answers.{seen};
-ghost use Rattle.asn1_rs.specs.Structs.{MadeOf};
-ghost use Rattle.asn1_rs.specs.Structs.Data.{struct_of};
-ghost use Rattle.asn1_rs.specs.Whole.{IsWhole, TakesWhole};
-ghost use Rattle.asn1_rs.specs.Callers.{ReadsByDer, WritesStrict};
+ghost use Rattle.asn1_rs.specs.Prelude.{IsWhole, MadeOf, ReadsByDer, refl, seen, struct_of, TakesWhole, WritesStrict};
 
 use crate::TbsCertificate;
+use asn1_rs::author::{
+    BorrowedRow, Fields, FieldsKind, HasKind, HasReader, LawfulStruct, ReadsFields, ReadsRow, Row,
+    StructReader, row_by_der,
+};
+use asn1_rs::laws::Grammar;
 use asn1_rs::{
-    BitString, BorrowedRow, DerParser, Error, Fields, FieldsKind, FromDer, Grammar, HasKind,
-    HasReader, LawfulStruct, ParseResult, ReadsFields, ReadsRow, Row, SerializeResult,
-    StructReader, ToDer, read_der, read_der_whole, row_by_der, strict_vec,
+    BitString, DerParser, Error, FromDer, ParseResult, SerializeResult, ToDer, read_der,
+    read_der_whole, strict_vec,
 };
 use asn1_rs_messages::AlgorithmIdentifier;
 use std::alloc::Global;

@@ -1,11 +1,11 @@
 //! For whom a certificate is, and the fields behind, as a part of its row.
-ghost use Rattle.asn1_rs.specs.Structs.{by_der, puts_of};
+ghost use Rattle.asn1_rs.specs.Prelude.{by_der, part_of, PartGives, puts_of};
 ghost use Rattle.asn1_rs_certificates.specs.Certificates.{holder_of};
-ghost use Rattle.asn1_rs.specs.Structs.PartsOfRows.{PartGives, part_of};
 
 use crate::added::{Added, AddedOf};
 use crate::{Name, TbsCertificate};
-use asn1_rs::{BorrowedRow, DerParser, Error, Fields, ReadsRow, Row, SerializeResult, row_by_der};
+use asn1_rs::author::{BorrowedRow, Fields, ReadsRow, Row, row_by_der};
+use asn1_rs::{DerParser, Error, SerializeResult};
 use asn1_rs_messages::{SubjectPublicKeyInfo, Validity};
 use std::alloc::Global;
 

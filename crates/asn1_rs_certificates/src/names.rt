@@ -1,15 +1,13 @@
 //! Names (RFC 5280, 4.1.2.4).
 ghost use Rattle.std.specs.Prelude.{◌≡◌, IfOk, IfErr, Ok, Err};
-ghost use Rattle.std.proofs.Common.{refl};
-ghost use Rattle.asn1_rs.specs.Any.{parts_of};
+ghost use Rattle.asn1_rs.specs.Prelude.{MadeOf, parts_of, refl, struct_of};
 ghost use Rattle.asn1_rs.specs.Any.Text.{utf8_checks};
-ghost use Rattle.asn1_rs.specs.Structs.{MadeOf};
-ghost use Rattle.asn1_rs.specs.Structs.Data.{struct_of};
 
-use asn1_rs::{
-    Any, BorrowedRow, DerParser, Error, Fields, FieldsKind, HasKind, HasReader, LawfulStruct, Oid,
-    ReadsFields, ReadsRow, Row, SerializeResult, SetOf, StructReader, row_by_der,
+use asn1_rs::author::{
+    BorrowedRow, Fields, FieldsKind, HasKind, HasReader, LawfulStruct, ReadsFields, ReadsRow, Row,
+    StructReader, row_by_der,
 };
+use asn1_rs::{Any, DerParser, Error, Oid, SerializeResult, SetOf};
 use std::alloc::Global;
 
 /// A name: sets of attributes, from the root of the directory on.

@@ -5,7 +5,8 @@ ghost use Rattle.asn1_rs_certificates.specs.Certificates.{AreSameAlgorithms, Fie
 ghost use Rattle.asn1_rs_certificates.specs.Certificates.{IsOfProfile, IsOutsideProfile};
 
 use crate::{Certificate, TbsCertificate};
-use asn1_rs::{Any, Error, Grammar, LawfulMember, Tag};
+use asn1_rs::laws::{Grammar, LawfulMember};
+use asn1_rs::{Any, Error, Tag};
 use asn1_rs_messages::AlgorithmIdentifier;
 
 /// Whether two items have one value, and so one strict encoding.

@@ -1,17 +1,19 @@
 //! What is signed (RFC 5280, 4.1.2). A row of ten fields is more than the checker takes at once. So the fields from the
 //! validity on stand in `holder`, and the last three in `added`.
-ghost use Rattle.std.proofs.Common.{refl, lit<};
-ghost use Rattle.asn1_rs.specs.Structs.{MadeOf};
-ghost use Rattle.asn1_rs.specs.Structs.Data.{struct_of};
-ghost use Rattle.asn1_rs.specs.Structs.DefaultTypes.{default_explicit, default_unsigned, its_own_type};
+ghost use Rattle.asn1_rs.specs.Prelude.{its_own_type, MadeOf, refl, struct_of};
+ghost use Rattle.std.proofs.Common.{lit<};
+ghost use Rattle.asn1_rs.specs.Structs.DefaultTypes.{default_explicit, default_unsigned};
 ghost use Rattle.asn1_rs_certificates.specs.Certificates.{holder_of};
 
 use crate::Name;
 use crate::holder::{Holder, HolderOf};
+use asn1_rs::author::{
+    BorrowedRow, DefaultOf, Fields, FieldsKind, HasKind, HasReader, LawfulStruct, ReadsFields,
+    ReadsRow, Row, StructReader, row_by_der,
+};
 use asn1_rs::{
-    BitString, BorrowedRow, DefaultOf, Defaulted, DerParser, Error, Fields, FieldsKind, HasKind,
-    HasReader, Integer, LawfulStruct, ReadsFields, ReadsRow, Row, SerializeResult, StructReader,
-    TaggedExplicit, TaggedImplicit, row_by_der,
+    BitString, Defaulted, DerParser, Error, Integer, SerializeResult, TaggedExplicit,
+    TaggedImplicit,
 };
 use asn1_rs_messages::{AlgorithmIdentifier, Extension, SubjectPublicKeyInfo, Validity};
 use std::alloc::Global;

@@ -1,7 +1,7 @@
 -- Choices whose values are on the heap.
 use Rattle.std.specs.Prelude.{◌≡◌, true, false, Result, Ok, Err}
 use Rattle.std.proofs.Common.{refl, ap, inl, inr}
-use Rattle.asn1_headers.specs.declared.error.Error.{Error}
+use Rattle.asn1_rs.specs.Prelude.{Error}
 use Rattle.asn1_headers.specs.declared.error.Error.TheVariants.{OutOfMemory}
 use Rattle.asn1_rs.specs.declared.asn1_types.any.Any.{Any}
 use Rattle.asn1_rs.specs.Choices.{ArmsGrammar, ChosenArm}

@@ -11,9 +11,9 @@ use Rattle.x690.specs.Joined.{IsOneFront}
 use Rattle.asn1_rs.specs.Grammar.{IsOneBody, FormChecks, FormBodies, made}
 use Rattle.asn1_rs.specs.Grammar.Form.{IsOneForm, IsOneValue, FitsElement, HasValues, IsStrict, header_of}
 use Rattle.asn1_rs.specs.Grammar.Item.{ItemGrammar, IsLawfulItem}
-use Rattle.asn1_rs.specs.Choices.{ArmsGrammar, ChosenArm, ByTag, CheckByTag, has_tag, has_a_tag, has_a_class, is_among}
+use Rattle.asn1_rs.specs.Prelude.{has_a_class, has_a_tag, is_one_of}
+use Rattle.asn1_rs.specs.Choices.{ArmsGrammar, ChosenArm, ByTag, CheckByTag, has_tag, is_among}
 use Rattle.asn1_rs.specs.Choices.{choice_grammar, arm_tells, arm_header, arm_content, arm_constructed}
-use Rattle.asn1_rs.specs.Structs.{is_one_of}
 use Rattle.asn1_rs.specs.Laws.Choices.{AreLawfulArms, AreLawfulPuts, HasArmValue, IsArmWritable, clash, class_by}
 use Rattle.asn1_rs.specs.Laws.Choices.{first_of, second_of, or_first, or_second, or_either}
 use Rattle.asn1_rs_choices.specs.declared.arms.OrChoice.{OrChoice}

@@ -4,7 +4,8 @@ use Rattle.std.specs.Prelude.{◌≡◌, ◌⊎◌, ◌||◌, ◌&&◌, ℕ, Boo
 use Rattle.std.proofs.Common.{inl, inr}
 use Rattle.asn1_rs.specs.Checks.{CheckGives}
 use Rattle.asn1_rs.specs.Grammar.Item.{ItemGrammar}
-use Rattle.asn1_rs.specs.Choices.{ArmsGrammar, ChosenArm, InArm, ByTag, CheckByTag, has_a_tag, is_among}
+use Rattle.asn1_rs.specs.Prelude.{has_a_tag}
+use Rattle.asn1_rs.specs.Choices.{ArmsGrammar, ChosenArm, InArm, ByTag, CheckByTag, is_among}
 use Rattle.asn1_rs_choices.specs.declared.arms.OrChoice.{OrChoice}
 use Rattle.asn1_rs_choices.specs.declared.arms.OrChoice.TheVariants as part
 

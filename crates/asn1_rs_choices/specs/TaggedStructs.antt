@@ -1,12 +1,10 @@
 -- A struct under an implicit tag that is read by BER: its words, what its reader answers, and the laws of both.
 use Rattle.std.specs.Prelude.{◌≡◌, false, List, ℕ, Result, Err}
 use Rattle.std.proofs.Common.{lit<}
-use Rattle.x690.specs.Octets.{IsOctets}
+use Rattle.asn1_rs.specs.Prelude.{by_ber, Error, IsOctets, parts_of}
 use Rattle.asn1_headers.specs.Answers.{IsOther}
-use Rattle.asn1_headers.specs.declared.error.Error.{Error}
 use Rattle.asn1_headers.specs.declared.tag.Tag.{Tag}
 use Rattle.asn1_rs.specs.declared.asn1_types.any.Any.{Any}
-use Rattle.asn1_rs.specs.Any.{parts_of}
 use Rattle.asn1_rs.specs.Checks.{CheckGives}
 use Rattle.asn1_rs.specs.Grammar.{TakesBody}
 use Rattle.asn1_rs.specs.Grammar.Item.{ItemGrammar, IsLawfulItem}
@@ -16,7 +14,7 @@ use Rattle.asn1_rs.specs.Laws.Structs.Readers.{struct_exact, struct_quiet}
 use Rattle.asn1_rs.specs.Laws.Structs.Structs.{struct_lawful, struct_number, struct_takes_class}
 use Rattle.asn1_rs.specs.Laws.Tagged.Implicit.{implicit_checked, implicit_lawful, implicit_takes, implicit_takes_no_memory}
 use Rattle.asn1_rs.specs.Lists.{IsListOr}
-use Rattle.asn1_rs.specs.Structs.{StructGives, by_ber}
+use Rattle.asn1_rs.specs.Structs.{StructGives}
 use Rattle.asn1_rs.specs.Structs.Data.{AnswersAlso, LawfulStructOf, grammar_of_struct}
 use Rattle.asn1_rs.specs.Tagged.Implicit.{ImplicitCheckGives, ImplicitTakes, implicit_grammar}
 

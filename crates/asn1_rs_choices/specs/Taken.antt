@@ -1,7 +1,7 @@
 -- What arms are taken for a choice is taken for it, and so is what is refused.
 use Rattle.std.specs.Prelude.{◌≡◌, ℕ, List, Ok, Err}
 use Rattle.std.proofs.Common.{ap}
-use Rattle.asn1_headers.specs.declared.error.Error.{Error}
+use Rattle.asn1_rs.specs.Prelude.{Error}
 use Rattle.asn1_rs.specs.declared.asn1_types.any.Any.{Any}
 use Rattle.asn1_rs.specs.Choices.{ArmsGrammar, choice_grammar}
 use Rattle.asn1_rs.specs.Choices.Data.{AnswersOf}

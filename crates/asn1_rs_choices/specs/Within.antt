@@ -1,10 +1,8 @@
 -- Arms that stand within a value of another type: its laws are theirs.
 use Rattle.std.specs.Prelude.{◌≡◌, false, Result, Ok, Err}
-use Rattle.x690.specs.Octets.{IsOctets}
-use Rattle.asn1_headers.specs.declared.error.Error.{Error}
+use Rattle.asn1_rs.specs.Prelude.{Error, has_a_tag, IsOctets, parts_of}
 use Rattle.asn1_rs.specs.declared.asn1_types.any.Any.{Any}
-use Rattle.asn1_rs.specs.Any.{parts_of}
-use Rattle.asn1_rs.specs.Choices.{ArmsGrammar, IsNoArm, has_a_tag}
+use Rattle.asn1_rs.specs.Choices.{ArmsGrammar, IsNoArm}
 use Rattle.asn1_rs.specs.Choices.Data.{LawfulArmsOf}
 use Rattle.asn1_rs.specs.Grammar.{TakesBody}
 use Rattle.asn1_rs.specs.Laws.Choices.{AreLawfulArms}

@@ -1,12 +1,8 @@
 //! A choice, or the other arms behind it.
 ghost use Rattle.std.specs.Prelude.{◌≡◌, ◌≢◌, ◌++◌, ℕ, List, Err};
 ghost use Rattle.asn1_headers.specs.Answers.{IsOther};
-ghost use Rattle.asn1_headers.specs.Error.{HeldIn};
-ghost use Rattle.asn1_headers.specs.declared.error.Error.{Error};
-ghost use Rattle.asn1_headers.specs.declared.error.Error.TheVariants.{OutOfMemory};
-ghost use Rattle.asn1_rs.specs.Any.{parts_of};
-ghost use Rattle.asn1_rs.specs.Choices.{has_a_tag};
-ghost use Rattle.asn1_rs.specs.Choices.Data.{ReadsChoiceAlso, TakesChoiceAlso, ChecksOf, grammar_of_choice};
+ghost use Rattle.asn1_rs.specs.Prelude.{ChecksOf, Error, has_a_tag, HeldIn, OutOfMemory, parts_of};
+ghost use Rattle.asn1_rs.specs.Choices.Data.{ReadsChoiceAlso, TakesChoiceAlso, grammar_of_choice};
 ghost use Rattle.asn1_rs.specs.Laws.Choices.Readers.{choice_checks};
 ghost use Rattle.asn1_rs.specs.Laws.Structs.Rows.{or_neither};
 ghost use Rattle.asn1_rs_choices.specs.Parts.{or_choice, OrChoiceReads, OrChoiceGives, OrChoiceChecks};
@@ -15,10 +11,11 @@ ghost use Rattle.asn1_rs_choices.specs.Laws.Readers.{or_choice_tagged, reads_exa
 ghost use Rattle.asn1_rs_choices.specs.Laws.Readers.{takes_exact, takes_quiet, takes_other, checks_exact};
 
 use crate::told::ToldChoice;
-use asn1_rs::{
-    Any, ArmNumbers, Arms, ChecksChoice, Class, Error, LawfulChoice, ParseResult, ReadsArms,
-    ReadsChoice, ReadsChoiceByBer, Tag, TakesArms, ToldByNumber,
+use asn1_rs::author::{
+    ArmNumbers, Arms, ChecksChoice, LawfulChoice, ReadsArms, ReadsChoice, ReadsChoiceByBer,
+    TakesArms, ToldByNumber,
 };
+use asn1_rs::{Any, Class, Error, ParseResult, Tag};
 use std::alloc::Global;
 
 /// A value of a choice, or one of the others.

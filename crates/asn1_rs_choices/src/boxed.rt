@@ -1,14 +1,14 @@
 //! A choice on the heap.
 ghost use Rattle.std.specs.Prelude.{◌≡◌, IfOk, IfErr};
 ghost use Rattle.asn1_headers.specs.declared.error.Error.TheVariants as errors;
-ghost use Rattle.asn1_rs.specs.Choices.Data.{choice_type};
+ghost use Rattle.asn1_rs.specs.Prelude.{choice_type};
 ghost use Rattle.asn1_rs_choices.specs.Heap.{boxed, held_in};
 
 use crate::told::ToldChoice;
-use asn1_rs::{
-    Any, ChecksChoice, ChoiceKind, Class, DynTagged, Error, HasKind, LawfulChoice, LawfulType,
-    ReadsChoiceByBer, Tag, UsesArm,
+use asn1_rs::author::{
+    ChecksChoice, ChoiceKind, HasKind, LawfulChoice, LawfulType, ReadsChoiceByBer, UsesArm,
 };
+use asn1_rs::{Any, Class, DynTagged, Error, Tag};
 use std::alloc::Global;
 
 /// A value of a choice on the heap.

@@ -2,11 +2,10 @@
 //! choices is checked without a lifetime.
 ghost use Rattle.std.specs.Prelude.{◌≡◌, None, Result};
 ghost use Rattle.x690.specs.Elements.{Parts};
-ghost use Rattle.asn1_headers.specs.declared.error.Error.{Error};
+ghost use Rattle.asn1_rs.specs.Prelude.{ChecksOf, Error, parts_of};
 ghost use Rattle.asn1_headers.specs.declared.error.Error.TheVariants as errors;
-ghost use Rattle.asn1_rs.specs.Any.{parts_of};
 ghost use Rattle.asn1_rs.specs.Choices.{ArmsGrammar, OrChecks, no_arms, or_arms};
-ghost use Rattle.asn1_rs.specs.Choices.Data.{ChecksOf, grammar_of_choice};
+ghost use Rattle.asn1_rs.specs.Choices.Data.{grammar_of_choice};
 ghost use Rattle.asn1_rs.specs.Kinds.{IsExactCheck};
 ghost use Rattle.asn1_rs.specs.Laws.Choices.Readers.{NoArmChecks, choice_checks, none_checks, or_checks};
 ghost use Rattle.asn1_rs_choices.specs.Laws.Readers.{checks_exact};
@@ -14,7 +13,9 @@ ghost use Rattle.asn1_rs_choices.specs.Parts.{OrChoiceChecks, or_choice};
 
 use crate::arms::OrChoice;
 use crate::told::{ToldChoice, is_of_arm};
-use asn1_rs::{Any, ChecksChoice, Error, LawfulCheck, Never, Or, Tagged};
+use asn1_rs::author::{ChecksChoice, Never, Or};
+use asn1_rs::laws::LawfulCheck;
+use asn1_rs::{Any, Error, Tagged};
 
 /// Arms whose constraints are checked.
 pub trait ChecksArms: Sized {

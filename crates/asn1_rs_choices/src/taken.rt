@@ -1,10 +1,12 @@
 //! Arms that an element converts to, whichever class it is of.
-ghost use Rattle.asn1_rs.specs.Choices.{ChoiceGives, choice_grammar};
+ghost use Rattle.asn1_rs.specs.Prelude.{ChoiceGives};
+ghost use Rattle.asn1_rs.specs.Choices.{choice_grammar};
 ghost use Rattle.asn1_rs.specs.Choices.Data.{AnswersOf};
 
 use crate::arms::OrChoice;
 use crate::told::ToldChoice;
-use asn1_rs::{Any, ChecksChoice, Error, ReadsChoiceByBer, TakesArms};
+use asn1_rs::author::{ChecksChoice, ReadsChoiceByBer, TakesArms};
+use asn1_rs::{Any, Error};
 use std::alloc::Global;
 
 /// Arms that an element converts to by BER.

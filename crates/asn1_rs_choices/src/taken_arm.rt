@@ -1,24 +1,20 @@
 //! An arm that is told to the checker by what its reader by BER answers, and by nothing else.
 ghost use Rattle.std.specs.Prelude.{◌≡◌, ◌≢◌, ◌∷◌, ℕ, List, Result, Err, false};
-ghost use Rattle.x690.specs.Octets.{IsOctets};
+ghost use Rattle.asn1_rs.specs.Prelude.{class_number, Error, has_a_class, is_one_of, IsOctets, OutOfMemory, parts_of};
 ghost use Rattle.x690.specs.Elements.{Parts};
 ghost use Rattle.asn1_headers.specs.Answers.{IsOther};
-ghost use Rattle.asn1_headers.specs.Class.{class_number};
-ghost use Rattle.asn1_headers.specs.declared.error.Error.{Error};
-ghost use Rattle.asn1_headers.specs.declared.error.Error.TheVariants.{OutOfMemory};
 ghost use Rattle.asn1_rs.specs.declared.asn1_types.any.Any.{Any};
-ghost use Rattle.asn1_rs.specs.Any.{parts_of};
-ghost use Rattle.asn1_rs.specs.Choices.{has_a_class, has_tag, or_arms, OrChecks, OrGives};
+ghost use Rattle.asn1_rs.specs.Choices.{has_tag, or_arms, OrChecks, OrGives};
 ghost use Rattle.asn1_rs.specs.Grammar.{TakesBody};
 ghost use Rattle.asn1_rs.specs.Grammar.Item.{ItemGrammar, IsLawfulItem};
 ghost use Rattle.asn1_rs.specs.Kinds.{IsExactCheck};
 ghost use Rattle.asn1_rs.specs.Laws.Choices.Readers.{not_memory, or_checks, or_tagged, or_takes, or_takes_other, or_takes_quiet};
 ghost use Rattle.asn1_rs.specs.Laws.Structs.Rows.{or_neither};
-ghost use Rattle.asn1_rs.specs.Structs.{is_one_of};
 ghost use Rattle.asn1_rs_choices.specs.Within.{GivesWithin, other_within, tagged_within, takes_within, within};
 
 use crate::told::is_of_arm;
-use asn1_rs::{Any, ArmNumbers, Class, Error, Or, Tag, TakesArms};
+use asn1_rs::author::{ArmNumbers, Or, TakesArms};
+use asn1_rs::{Any, Class, Error, Tag};
 use std::alloc::Global;
 use std::marker::PhantomData;
 

@@ -1,11 +1,11 @@
 //! Arms and choices that tell by an element whether it is one of theirs.
 ghost use Rattle.std.specs.Prelude.{◌≡◌, ◌∷◌, [], ◌++◌, ℕ, List};
-ghost use Rattle.asn1_headers.specs.Class.{class_number};
-ghost use Rattle.asn1_rs.specs.Any.{parts_of};
-ghost use Rattle.asn1_rs.specs.Choices.{has_tag, has_a_tag, has_a_class};
+ghost use Rattle.asn1_rs.specs.Prelude.{class_number, has_a_class, has_a_tag, parts_of};
+ghost use Rattle.asn1_rs.specs.Choices.{has_tag};
 
 use crate::arms::OrChoice;
-use asn1_rs::{Any, Class, LawfulChoice, Never, Or, Tag, Tagged};
+use asn1_rs::author::{LawfulChoice, Never, Or};
+use asn1_rs::{Any, Class, Tag, Tagged};
 
 /// Arms that tell by class and tag number whether an element is of one of them.
 pub trait TellsArms {

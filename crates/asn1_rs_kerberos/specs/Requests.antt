@@ -1,7 +1,6 @@
 -- Requests of Kerberos.
 use Rattle.std.specs.Prelude.{◌≡◌, ◌≢◌, ◌⊎◌, codes}
-use Rattle.asn1_headers.specs.declared.error.Error.{Error}
-use Rattle.asn1_headers.specs.Error.{IsInvalidValue}
+use Rattle.asn1_rs.specs.Prelude.{Error, IsInvalidValue}
 use Rattle.asn1_rs_kerberos.specs.declared.asked.Asked.{Asked}
 use Rattle.asn1_rs_kerberos.specs.declared.body.KdcReqBody.{KdcReqBody}
 use Rattle.asn1_rs_kerberos.specs.declared.request.KdcReq.{KdcReq}

@@ -1,13 +1,10 @@
 //! The last six fields of what is asked for, as a part of its row.
-ghost use Rattle.asn1_rs.specs.Structs.{by_der, puts_of};
+ghost use Rattle.asn1_rs.specs.Prelude.{by_der, part_of, PartGives, puts_of};
 ghost use Rattle.asn1_rs_kerberos.specs.Requests.{asked_of};
-ghost use Rattle.asn1_rs.specs.Structs.PartsOfRows.{PartGives, part_of};
 
 use crate::{EncryptedData, HostAddress, KdcReqBody, Ticket, Under};
-use asn1_rs::{
-    BorrowedRow, DerParser, Error, Fields, GeneralizedTime, ReadsRow, Row, SerializeResult,
-    row_by_der,
-};
+use asn1_rs::author::{BorrowedRow, Fields, ReadsRow, Row, row_by_der};
+use asn1_rs::{DerParser, Error, GeneralizedTime, SerializeResult};
 use std::alloc::Global;
 
 /// The fields from `rtime` on.

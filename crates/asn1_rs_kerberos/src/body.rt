@@ -1,17 +1,15 @@
 //! What is asked for (RFC 4120, 5.4.1). A row of twelve fields is more than the checker takes at once. So the last six
 //! fields stand in `asked`.
-ghost use Rattle.std.proofs.Common.{refl};
-ghost use Rattle.asn1_rs.specs.Structs.{MadeOf};
-ghost use Rattle.asn1_rs.specs.Structs.Data.{struct_of};
+ghost use Rattle.asn1_rs.specs.Prelude.{MadeOf, refl, struct_of};
 ghost use Rattle.asn1_rs_kerberos.specs.Requests.{asked_of};
 
 use crate::asked::{Asked, AskedOf};
 use crate::{EncryptedData, HostAddress, PrincipalName, Ticket, Under};
-use asn1_rs::{
-    BitString, BorrowedRow, DerParser, Error, Fields, FieldsKind, GeneralString, GeneralizedTime,
-    HasKind, HasReader, LawfulStruct, ReadsFields, ReadsRow, Row, SerializeResult, StructReader,
-    row_by_der,
+use asn1_rs::author::{
+    BorrowedRow, Fields, FieldsKind, HasKind, HasReader, LawfulStruct, ReadsFields, ReadsRow, Row,
+    StructReader, row_by_der,
 };
+use asn1_rs::{BitString, DerParser, Error, GeneralString, GeneralizedTime, SerializeResult};
 use std::alloc::Global;
 
 /// What is asked for.

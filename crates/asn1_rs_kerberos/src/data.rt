@@ -1,13 +1,12 @@
 //! What a request carries beside names: data for the authentication, addresses and what is encrypted (RFC 4120, 5.2).
-ghost use Rattle.std.proofs.Common.{refl};
-ghost use Rattle.asn1_rs.specs.Structs.{MadeOf};
-ghost use Rattle.asn1_rs.specs.Structs.Data.{struct_of};
+ghost use Rattle.asn1_rs.specs.Prelude.{MadeOf, refl, struct_of};
 
 use crate::Under;
-use asn1_rs::{
-    BorrowedRow, DerParser, Error, Fields, FieldsKind, HasKind, HasReader, LawfulStruct,
-    OctetString, ReadsFields, ReadsRow, Row, SerializeResult, StructReader, row_by_der,
+use asn1_rs::author::{
+    BorrowedRow, Fields, FieldsKind, HasKind, HasReader, LawfulStruct, ReadsFields, ReadsRow, Row,
+    StructReader, row_by_der,
 };
+use asn1_rs::{DerParser, Error, OctetString, SerializeResult};
 use std::alloc::Global;
 
 /// Data for the authentication, of a type that says what its octets are (5.2.7).

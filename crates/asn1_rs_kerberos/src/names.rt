@@ -1,13 +1,12 @@
 //! Names (RFC 4120, 5.2.2).
-ghost use Rattle.std.proofs.Common.{refl};
-ghost use Rattle.asn1_rs.specs.Structs.{MadeOf};
-ghost use Rattle.asn1_rs.specs.Structs.Data.{struct_of};
+ghost use Rattle.asn1_rs.specs.Prelude.{MadeOf, refl, struct_of};
 
 use crate::Under;
-use asn1_rs::{
-    BorrowedRow, DerParser, Error, Fields, FieldsKind, GeneralString, HasKind, HasReader,
-    LawfulStruct, ReadsFields, ReadsRow, Row, SerializeResult, StructReader, row_by_der,
+use asn1_rs::author::{
+    BorrowedRow, Fields, FieldsKind, HasKind, HasReader, LawfulStruct, ReadsFields, ReadsRow, Row,
+    StructReader, row_by_der,
 };
+use asn1_rs::{DerParser, Error, GeneralString, SerializeResult};
 use std::alloc::Global;
 
 /// The name of a client or of a service.

@@ -1,17 +1,17 @@
 //! The request whole (RFC 4120, 5.4.1).
 ghost use Rattle.std.specs.Prelude.{MatchResult};
-ghost use Rattle.std.proofs.Common.{refl};
-ghost use Rattle.asn1_headers.specs.Answers.{seen};
-ghost use Rattle.asn1_rs.specs.Structs.{MadeOf};
-ghost use Rattle.asn1_rs.specs.Structs.Data.{struct_of};
+ghost use Rattle.asn1_rs.specs.Prelude.{MadeOf, ReadsByDer, refl, seen, struct_of, WritesStrict};
 ghost use Rattle.asn1_rs_kerberos.specs.Requests.{IsAsReq, IsNoAsReq};
-ghost use Rattle.asn1_rs.specs.Callers.{ReadsByDer, WritesStrict};
 
 use crate::{KdcReqBody, PaData, Under};
+use asn1_rs::author::{
+    BorrowedRow, Fields, FieldsKind, HasKind, HasReader, LawfulStruct, ReadsFields, ReadsRow, Row,
+    StructReader, row_by_der,
+};
+use asn1_rs::laws::Grammar;
 use asn1_rs::{
-    ApplicationExplicit, BorrowedRow, DerParser, Error, Fields, FieldsKind, Grammar, HasKind,
-    HasReader, LawfulStruct, ParseResult, ReadsFields, ReadsRow, Row, SerializeResult,
-    StructReader, Tag, ToDer, read_der, row_by_der, strict_vec,
+    ApplicationExplicit, DerParser, Error, ParseResult, SerializeResult, Tag, ToDer, read_der,
+    strict_vec,
 };
 use std::alloc::Global;
 

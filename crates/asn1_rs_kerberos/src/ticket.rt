@@ -1,13 +1,12 @@
 //! Tickets (RFC 4120, 5.3).
-ghost use Rattle.std.proofs.Common.{refl};
-ghost use Rattle.asn1_rs.specs.Structs.{MadeOf};
-ghost use Rattle.asn1_rs.specs.Structs.Data.{struct_of};
+ghost use Rattle.asn1_rs.specs.Prelude.{MadeOf, refl, struct_of};
 
 use crate::{EncryptedData, PrincipalName, Under};
-use asn1_rs::{
-    ApplicationExplicit, BorrowedRow, DerParser, Error, Fields, FieldsKind, GeneralString, HasKind,
-    HasReader, LawfulStruct, ReadsFields, ReadsRow, Row, SerializeResult, StructReader, row_by_der,
+use asn1_rs::author::{
+    BorrowedRow, Fields, FieldsKind, HasKind, HasReader, LawfulStruct, ReadsFields, ReadsRow, Row,
+    StructReader, row_by_der,
 };
+use asn1_rs::{ApplicationExplicit, DerParser, Error, GeneralString, SerializeResult};
 use std::alloc::Global;
 
 /// A ticket: `Ticket ::= [APPLICATION 1] SEQUENCE { .. }`.

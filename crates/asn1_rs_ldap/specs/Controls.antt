@@ -3,7 +3,8 @@
 use Rattle.std.specs.Prelude.{false, refl}
 use Rattle.asn1_rs.specs.Laws.OctetString.{octet_string_lawful}
 use Rattle.asn1_rs.specs.OctetString.{octet_string_leaf}
-use Rattle.asn1_rs.specs.Structs.Data.{LawfulStructOf, end_row, field_of, optional_of, struct_of, then_row}
+use Rattle.asn1_rs.specs.Prelude.{struct_of}
+use Rattle.asn1_rs.specs.Structs.Data.{LawfulStructOf, end_row, field_of, optional_of, then_row}
 use Rattle.asn1_rs.specs.Structs.DefaultTypes.{default_bool, defaulted_of}
 use Rattle.asn1_rs.specs.Structs.Types.{leaf_type}
 use Rattle.asn1_rs_ldap.specs.declared.control.Control.{Control}

@@ -2,7 +2,7 @@
 -- alone open its name. What holds a filter goes by the name. So the time of its check does not grow with what stands
 -- below.
 use Rattle.std.specs.Prelude.{ℕ, refl}
-use Rattle.asn1_headers.specs.declared.error.Error.{Error}
+use Rattle.asn1_rs.specs.Prelude.{choice_of, choice_type, Error, items_of, struct_type}
 use Rattle.asn1_rs.specs.declared.asn1_types.octet_string.OctetString.{OctetString}
 use Rattle.asn1_rs.specs.declared.asn1_types.set.set_of.SetOf.{SetOf}
 use Rattle.asn1_rs.specs.declared.asn1_types.tagged.Explicit.{Explicit}
@@ -11,11 +11,10 @@ use Rattle.asn1_rs.specs.declared.asn1_types.tagged.TaggedValue.{TaggedValue}
 use Rattle.asn1_rs.specs.declared.choices.arms.Never.{Never}
 use Rattle.asn1_rs.specs.declared.choices.arms.Or.{Or}
 use Rattle.asn1_rs.specs.declared.choices.arms.Or.TheVariants as arm
-use Rattle.asn1_rs.specs.Choices.Data.{LawfulArmsOf, LawfulChoiceOf, arm_before, choice_of, choice_type, end_of_arms}
+use Rattle.asn1_rs.specs.Choices.Data.{LawfulArmsOf, LawfulChoiceOf, arm_before, end_of_arms}
 use Rattle.asn1_rs.specs.Laws.OctetString.{octet_string_lawful}
 use Rattle.asn1_rs.specs.OctetString.{octet_string_leaf}
-use Rattle.asn1_rs.specs.Set.{items_of}
-use Rattle.asn1_rs.specs.Structs.Data.{LawfulStructOf, LawfulTypeOf, struct_type}
+use Rattle.asn1_rs.specs.Structs.Data.{LawfulStructOf, LawfulTypeOf}
 use Rattle.asn1_rs.specs.Structs.Types.{explicit_type, implicit_type, leaf_type, multiset_type}
 use Rattle.asn1_rs_choices.specs.Heap.{boxed}
 use Rattle.asn1_rs_choices.specs.Parts.Data.{choice_before}

@@ -1,7 +1,7 @@
 -- The laws of a message of LDAP. They are opened in the proofs of its three functions.
 use Rattle.std.specs.Prelude.{refl}
-use Rattle.asn1_rs.specs.Choices.Data.{choice_type}
-use Rattle.asn1_rs.specs.Structs.Data.{LawfulStructOf, end_row, field_of, optional_of, struct_of, struct_type, then_row}
+use Rattle.asn1_rs.specs.Prelude.{choice_type, struct_of, struct_type}
+use Rattle.asn1_rs.specs.Structs.Data.{LawfulStructOf, end_row, field_of, optional_of, then_row}
 use Rattle.asn1_rs.specs.Structs.Types.{implicit_type, list_type, unsigned_type}
 use Rattle.asn1_rs_ldap.specs.Controls.{control_laws}
 use Rattle.asn1_rs_ldap.specs.Operations.{operation_laws}

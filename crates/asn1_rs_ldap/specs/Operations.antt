@@ -1,17 +1,17 @@
 -- Operations of LDAP: which arm one is, and the laws of their choice. The proofs of the choice alone open them. What
 -- holds an operation goes by their name.
 use Rattle.std.specs.Prelude.{ℕ, refl}
-use Rattle.asn1_headers.specs.declared.error.Error.{Error}
+use Rattle.asn1_rs.specs.Prelude.{choice_of, Error, struct_type}
 use Rattle.asn1_rs.specs.declared.asn1_types.null.Null.{Null}
 use Rattle.asn1_rs.specs.declared.asn1_types.tagged.Implicit.{Implicit}
 use Rattle.asn1_rs.specs.declared.asn1_types.tagged.TaggedValue.{TaggedValue}
 use Rattle.asn1_rs.specs.declared.choices.arms.Never.{Never}
 use Rattle.asn1_rs.specs.declared.choices.arms.Or.{Or}
 use Rattle.asn1_rs.specs.declared.choices.arms.Or.TheVariants as arm
-use Rattle.asn1_rs.specs.Choices.Data.{LawfulChoiceOf, arm_before, choice_of, end_of_arms}
+use Rattle.asn1_rs.specs.Choices.Data.{LawfulChoiceOf, arm_before, end_of_arms}
 use Rattle.asn1_rs.specs.Laws.Null.{null_lawful}
 use Rattle.asn1_rs.specs.Null.{null_leaf}
-use Rattle.asn1_rs.specs.Structs.Data.{LawfulTypeOf, struct_type}
+use Rattle.asn1_rs.specs.Structs.Data.{LawfulTypeOf}
 use Rattle.asn1_rs.specs.Structs.Types.{implicit_type, leaf_type, unsigned_type}
 use Rattle.asn1_rs_choices.specs.Within.{arms_within}
 use Rattle.asn1_rs_choices.specs.declared.taken_arm.OrTaken.{OrTaken}

@@ -4,7 +4,8 @@ use Rattle.asn1_rs.specs.Enumerated.{enumerated_leaf}
 use Rattle.asn1_rs.specs.Laws.Enumerated.{enumerated_lawful}
 use Rattle.asn1_rs.specs.Laws.OctetString.{octet_string_lawful}
 use Rattle.asn1_rs.specs.OctetString.{octet_string_leaf}
-use Rattle.asn1_rs.specs.Structs.Data.{LawfulStructOf, field_of, struct_of, then_row}
+use Rattle.asn1_rs.specs.Prelude.{struct_of}
+use Rattle.asn1_rs.specs.Structs.Data.{LawfulStructOf, field_of, then_row}
 use Rattle.asn1_rs.specs.Structs.Types.{leaf_type, unsigned_type}
 use Rattle.asn1_rs_ldap.specs.Endings.{wanted_of}
 use Rattle.asn1_rs_ldap.specs.contracts.wanted.WantedRow.TheImpl as wanted

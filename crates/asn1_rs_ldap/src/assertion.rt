@@ -1,17 +1,16 @@
 //! What a filter asserts of an attribute (RFC 4511, 4.1.6 and 4.5.1.7).
-ghost use Rattle.std.proofs.Common.{false, refl};
-ghost use Rattle.asn1_rs.specs.Structs.{MadeOf};
-ghost use Rattle.asn1_rs.specs.Structs.Data.{struct_of};
+ghost use Rattle.asn1_rs.specs.Prelude.{its_own_type, MadeOf, refl, struct_of};
+ghost use Rattle.std.proofs.Common.{false};
 ghost use Rattle.asn1_rs_ldap.specs.Endings.{compared_of};
-ghost use Rattle.asn1_rs.specs.Structs.DefaultTypes.{default_bool, default_implicit, its_own_type};
+ghost use Rattle.asn1_rs.specs.Structs.DefaultTypes.{default_bool, default_implicit};
 
 use crate::Octets;
 use crate::matching::{ComparedValue, ComparedValueOf};
-use asn1_rs::{
-    BerParser, BorrowedRow, DefaultOf, Defaulted, Error, Fields, FieldsKind, HasKind, HasReader,
-    LawfulStruct, OctetString, ReadsFieldsByBer, ReadsRow, Row, SerializeResult, StructReader,
-    TaggedImplicit, row_by_ber,
+use asn1_rs::author::{
+    BorrowedRow, DefaultOf, Fields, FieldsKind, HasKind, HasReader, LawfulStruct, ReadsFieldsByBer,
+    ReadsRow, Row, StructReader, row_by_ber,
 };
+use asn1_rs::{BerParser, Defaulted, Error, OctetString, SerializeResult, TaggedImplicit};
 use std::alloc::Global;
 
 /// That an attribute has a value, or one that stands in an order to it.

@@ -1,12 +1,12 @@
 //! Controls, which extend an operation (RFC 4511, 4.1.11).
-ghost use Rattle.asn1_rs.specs.Structs.{MadeOf};
+ghost use Rattle.asn1_rs.specs.Prelude.{MadeOf};
 ghost use Rattle.asn1_rs_ldap.specs.Controls.{control_laws};
 
-use asn1_rs::{
-    BerParser, BorrowedRow, DefaultFalse, Defaulted, Error, Fields, FieldsKind, HasKind, HasReader,
-    LawfulStruct, OctetString, ReadsFieldsByBer, ReadsRow, SerializeResult, StructReader,
-    row_by_ber,
+use asn1_rs::author::{
+    BorrowedRow, Fields, FieldsKind, HasKind, HasReader, LawfulStruct, ReadsFieldsByBer, ReadsRow,
+    StructReader, row_by_ber,
 };
+use asn1_rs::{BerParser, DefaultFalse, Defaulted, Error, OctetString, SerializeResult};
 use std::alloc::Global;
 
 /// An extension of an operation, whose type is an identifier in dotted form.

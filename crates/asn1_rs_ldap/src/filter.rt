@@ -3,12 +3,9 @@
 //! A filter holds filters, as deep as they nest. Readers nest by the caller's types alone, so a type bounds the depth.
 //! [`SimpleFilter`] holds no filter, and `FilterOf<'a, F>` holds filters of the type `F`. An inner filter that would be
 //! deeper is refused as of no arm, with `UnexpectedTag`.
-ghost use Rattle.asn1_headers.specs.Answers.{seen};
-ghost use Rattle.asn1_rs.specs.Any.{parts_of};
-ghost use Rattle.asn1_rs.specs.Callers.{ReadsByBer, WritesStrict};
-ghost use Rattle.asn1_rs.specs.Structs.{is_one_of};
+ghost use Rattle.asn1_rs.specs.Prelude.{ChecksOf, choice_numbers, choice_type, is_one_of, numbers_of_choice};
+ghost use Rattle.asn1_rs.specs.Prelude.{parts_of, ReadsByBer, seen, WritesStrict};
 ghost use Rattle.std.specs.Prelude.{◌≡◌};
-ghost use Rattle.asn1_rs.specs.Choices.Data.{ChecksOf, choice_numbers, choice_type, numbers_of_choice};
 ghost use Rattle.asn1_rs_ldap.specs.Filters.{filter_laws, in_filter_arms, in_simple_arms, simple_laws};
 ghost use Rattle.asn1_rs_ldap.specs.declared.filter.FilterOf.TheVariants as filters;
 ghost use Rattle.asn1_rs_ldap.specs.declared.filter.SimpleFilter.TheVariants as simple;
@@ -17,10 +14,13 @@ use crate::Filter;
 use crate::combined::Combined;
 use crate::compared::Compared;
 use crate::matched::Matched;
+use asn1_rs::author::{
+    ArmNumbers, ChecksChoice, ChoiceKind, ChoiceReader, HasKind, HasReader, LawfulChoice,
+    LawfulType, Never, OfArms, ReadsChoiceByBer, ToldByNumber, UsesArm, choice_of_element,
+};
+use asn1_rs::laws::Grammar;
 use asn1_rs::{
-    Any, ArmNumbers, ChecksChoice, ChoiceKind, ChoiceReader, DynTagged, Error, Grammar, HasKind,
-    HasReader, LawfulChoice, LawfulType, Never, OfArms, ParseResult, ReadsChoiceByBer,
-    SerializeResult, Tag, ToDer, ToldByNumber, UsesArm, choice_of_element, read_ber, strict_vec,
+    Any, DynTagged, Error, ParseResult, SerializeResult, Tag, ToDer, read_ber, strict_vec,
 };
 use asn1_rs_choices::{OrChoice, TakesWhole, check_arms};
 use std::alloc::Global;

@@ -1,19 +1,16 @@
 //! Filters of parts of values, of attributes that are there, and of rules. They are a part of the choice of filters.
-ghost use Rattle.asn1_rs.specs.Choices.{has_a_class, has_a_tag};
-ghost use Rattle.asn1_rs.specs.Any.{parts_of};
-ghost use Rattle.asn1_headers.specs.Class.{class_number};
-ghost use Rattle.asn1_rs.specs.Structs.{is_one_of};
+ghost use Rattle.asn1_rs.specs.Prelude.{ChecksOf, choice_numbers, class_number, has_a_class, has_a_tag, is_one_of};
+ghost use Rattle.asn1_rs.specs.Prelude.{numbers_of_choice, parts_of};
 ghost use Rattle.std.specs.Prelude.{◌≡◌};
-ghost use Rattle.asn1_rs.specs.Choices.Data.{ChecksOf, choice_numbers, numbers_of_choice};
 ghost use Rattle.asn1_rs_ldap.specs.Filters.{in_matched_arms, matched_arms, matched_laws};
 ghost use Rattle.asn1_rs_ldap.specs.declared.matched.Matched.TheVariants as matched;
 
 use crate::{MatchingRuleAssertion, Octets, SubstringFilter};
-use asn1_rs::{
-    Any, ArmNumbers, ChecksChoice, ChoiceKind, ChoiceReader, Class, DynTagged, Error, HasKind,
-    HasReader, LawfulChoice, Never, OfArms, Or, OrTagged, ReadsChoiceByBer, Tag, TaggedImplicit,
-    ToldByNumber, UsesArm, choice_of_element,
+use asn1_rs::author::{
+    ArmNumbers, ChecksChoice, ChoiceKind, ChoiceReader, HasKind, HasReader, LawfulChoice, Never,
+    OfArms, Or, OrTagged, ReadsChoiceByBer, ToldByNumber, UsesArm, choice_of_element,
 };
+use asn1_rs::{Any, Class, DynTagged, Error, Tag, TaggedImplicit};
 use asn1_rs_choices::{TellsArms, ToldChoice, check_arms};
 use std::alloc::Global;
 

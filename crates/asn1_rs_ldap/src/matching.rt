@@ -1,13 +1,11 @@
 //! What a rule compares, as a part of the row of an assertion by a rule.
-ghost use Rattle.asn1_rs.specs.Structs.{by_ber, puts_of};
-ghost use Rattle.asn1_rs.specs.Structs.PartsOfRows.{PartGives, part_of};
+ghost use Rattle.asn1_rs.specs.Prelude.{by_ber, part_of, PartGives, puts_of};
 ghost use Rattle.asn1_rs_ldap.specs.Endings.{compared_of};
 
 use crate::Octets;
 use crate::assertion::{DnAttributes, MatchingRuleAssertion, NotOfTheName};
-use asn1_rs::{
-    BerParser, BorrowedRow, Defaulted, Error, Fields, ReadsRow, Row, SerializeResult, row_by_ber,
-};
+use asn1_rs::author::{BorrowedRow, Fields, ReadsRow, Row, row_by_ber};
+use asn1_rs::{BerParser, Defaulted, Error, SerializeResult};
 use std::alloc::Global;
 
 /// The fields from `matchValue` on.

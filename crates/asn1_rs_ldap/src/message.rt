@@ -1,17 +1,17 @@
 //! Messages (RFC 4511, 4.1.1).
-ghost use Rattle.asn1_headers.specs.Answers.{seen};
-ghost use Rattle.asn1_rs.specs.Callers.{ReadsByBer, WritesStrict};
-ghost use Rattle.asn1_rs.specs.Grammar.Item.{ber_words};
-ghost use Rattle.asn1_rs.specs.Structs.{MadeOf};
-ghost use Rattle.asn1_rs.specs.Whole.{IsWhole, TakesWhole};
+ghost use Rattle.asn1_rs.specs.Prelude.{ber_words, IsWhole, MadeOf, ReadsByBer, seen, TakesWhole, WritesStrict};
 ghost use Rattle.asn1_rs_ldap.specs.Messages.{message_laws};
 
 use crate::control::Control;
 use crate::operation::Operation;
+use asn1_rs::author::{
+    BorrowedRow, Fields, FieldsKind, HasKind, HasReader, LawfulStruct, ReadsFieldsByBer, ReadsRow,
+    StructReader, row_by_ber,
+};
+use asn1_rs::laws::Grammar;
 use asn1_rs::{
-    BerParser, BorrowedRow, Error, Fields, FieldsKind, FromBer, Grammar, HasKind, HasReader,
-    LawfulStruct, ParseResult, ReadsFieldsByBer, ReadsRow, SerializeResult, StructReader,
-    TaggedImplicit, ToDer, read_ber, read_ber_whole, row_by_ber, strict_vec,
+    BerParser, Error, FromBer, ParseResult, SerializeResult, TaggedImplicit, ToDer, read_ber,
+    read_ber_whole, strict_vec,
 };
 use std::alloc::Global;
 

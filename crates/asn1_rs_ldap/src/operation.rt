@@ -1,8 +1,6 @@
 //! What is asked of a server (RFC 4511, 4.2 to 4.14).
 ghost use Rattle.std.specs.Prelude.{◌≡◌};
-ghost use Rattle.asn1_rs.specs.Any.{parts_of};
-ghost use Rattle.asn1_rs.specs.Structs.{is_one_of};
-ghost use Rattle.asn1_rs.specs.Choices.Data.{choice_numbers, choice_type, numbers_of_choice};
+ghost use Rattle.asn1_rs.specs.Prelude.{choice_numbers, choice_type, is_one_of, numbers_of_choice, parts_of};
 ghost use Rattle.asn1_rs_ldap.specs.Operations.{in_operation_arms, operation_laws};
 ghost use Rattle.asn1_rs_ldap.specs.Searches.{search_laws};
 ghost use Rattle.asn1_rs_choices.specs.TaggedStructs.{ChecksTagged, TakesTagged, tagged_struct};
@@ -10,10 +8,12 @@ ghost use Rattle.asn1_rs_choices.specs.TaggedStructs.{tagged_checks, tagged_exac
 ghost use Rattle.asn1_rs_ldap.specs.declared.operation.Operation.TheVariants as operations;
 
 use crate::search::SearchRequest;
+use asn1_rs::author::{
+    ArmNumbers, ChoiceKind, ChoiceReader, HasKind, HasReader, LawfulChoice, LawfulType, Never,
+    OfArms, Or, ReadsChoiceByBer, ReadsFieldsByBer, ToldByNumber, UsesArm, choice_of_element,
+};
 use asn1_rs::{
-    Any, ApplicationImplicit, ArmNumbers, CheckDerConstraints, ChoiceKind, ChoiceReader, DynTagged,
-    Error, FromAny, HasKind, HasReader, LawfulChoice, LawfulType, Never, Null, OfArms, Or,
-    ReadsChoiceByBer, ReadsFieldsByBer, Tag, ToldByNumber, UsesArm, choice_of_element,
+    Any, ApplicationImplicit, CheckDerConstraints, DynTagged, Error, FromAny, Null, Tag,
 };
 use asn1_rs_choices::{OrTaken, TakenArm};
 use std::alloc::Global;

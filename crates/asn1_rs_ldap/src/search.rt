@@ -1,15 +1,15 @@
 //! A search (RFC 4511, 4.5.1).
-ghost use Rattle.asn1_rs.specs.Structs.{MadeOf};
+ghost use Rattle.asn1_rs.specs.Prelude.{MadeOf};
 ghost use Rattle.asn1_rs_ldap.specs.Endings.{wanted_of};
 ghost use Rattle.asn1_rs_ldap.specs.Searches.{search_laws};
 
 use crate::Filter;
 use crate::wanted::{Wanted, WantedOf};
-use asn1_rs::{
-    BerParser, BorrowedRow, Enumerated, Error, Fields, FieldsKind, HasKind, HasReader,
-    LawfulStruct, OctetString, ReadsFieldsByBer, ReadsRow, SerializeResult, StructReader,
-    row_by_ber,
+use asn1_rs::author::{
+    BorrowedRow, Fields, FieldsKind, HasKind, HasReader, LawfulStruct, ReadsFieldsByBer, ReadsRow,
+    StructReader, row_by_ber,
 };
+use asn1_rs::{BerParser, Enumerated, Error, OctetString, SerializeResult};
 use std::alloc::Global;
 
 /// A search: where it begins, how deep it goes, and what it wants of which entries.

@@ -1,18 +1,15 @@
 //! Filters of parts of texts (RFC 4511, 4.5.1.7.2).
-ghost use Rattle.std.proofs.Common.{refl};
-ghost use Rattle.asn1_rs.specs.Choices.Data.{choice_of, choice_type};
-ghost use Rattle.asn1_rs.specs.Structs.{MadeOf};
-ghost use Rattle.asn1_rs.specs.Structs.Data.{struct_of};
+ghost use Rattle.asn1_rs.specs.Prelude.{choice_of, choice_type, MadeOf, refl, struct_of};
 ghost use Rattle.asn1_rs.specs.declared.choices.arms.Or.TheVariants as arm;
 ghost use Rattle.asn1_rs_ldap.specs.declared.substrings.Substring.TheVariants as substrings;
 
 use crate::Octets;
-use asn1_rs::{
-    Any, Arms, BerParser, BorrowedRow, ChoiceKind, ChoiceReader, DynTagged, Error, Fields,
-    FieldsKind, HasKind, HasReader, LawfulChoice, LawfulStruct, LawfulType, Never, OctetString,
-    OfArms, Or, OrTagged, ReadsChoiceByBer, ReadsFieldsByBer, ReadsRow, Row, SerializeResult,
-    StructReader, Tag, UsesArm, choice_of_element, row_by_ber,
+use asn1_rs::author::{
+    Arms, BorrowedRow, ChoiceKind, ChoiceReader, Fields, FieldsKind, HasKind, HasReader,
+    LawfulChoice, LawfulStruct, LawfulType, Never, OfArms, Or, OrTagged, ReadsChoiceByBer,
+    ReadsFieldsByBer, ReadsRow, Row, StructReader, UsesArm, choice_of_element, row_by_ber,
 };
+use asn1_rs::{Any, BerParser, DynTagged, Error, OctetString, SerializeResult, Tag};
 use std::alloc::Global;
 
 /// A part of a text, and where it stands.

@@ -1,12 +1,10 @@
 //! What a search wants of which entries, as a part of its row.
-ghost use Rattle.asn1_rs.specs.Structs.{by_ber, puts_of};
+ghost use Rattle.asn1_rs.specs.Prelude.{by_ber, part_of, PartGives, puts_of};
 ghost use Rattle.asn1_rs_ldap.specs.Endings.{wanted_of};
-ghost use Rattle.asn1_rs.specs.Structs.PartsOfRows.{PartGives, part_of};
 
 use crate::{Filter, SearchRequest};
-use asn1_rs::{
-    BerParser, BorrowedRow, Error, Fields, OctetString, ReadsRow, Row, SerializeResult, row_by_ber,
-};
+use asn1_rs::author::{BorrowedRow, Fields, ReadsRow, Row, row_by_ber};
+use asn1_rs::{BerParser, Error, OctetString, SerializeResult};
 use std::alloc::Global;
 
 /// The fields from `typesOnly` on.

@@ -2,12 +2,10 @@
 use native.Mathlib.Nat.{ℕ_set}
 use Rattle.std.specs.Prelude.{◌≡◌, ◌%◌, ℕ, false, List, Result, Ok, Err, pos}
 use Rattle.std.proofs.Common.{◌∙◌, ap, sym, subst, refl, inl, inr}
-use Rattle.x690.specs.Octets.{IsOctets}
+use Rattle.asn1_rs.specs.Prelude.{Error, IsOctets, parts_of}
 use Rattle.x690.specs.Integers.{unsigned_octets}
 use Rattle.x690.specs.Laws.Integers.Unsigned.{unsigned_octets_content}
 use Rattle.asn1_rs.specs.declared.asn1_types.any.Any.{Any}
-use Rattle.asn1_headers.specs.declared.error.Error.{Error}
-use Rattle.asn1_rs.specs.Any.{parts_of}
 use Rattle.asn1_rs.specs.Grammar.{TakesBody}
 use Rattle.asn1_rs.specs.Integer.{IntegerBody, IntegerCheck, IntegerCheckGives, IntegerForm, IsUnsigned, UnsignedGives}
 use Rattle.asn1_rs.specs.Integer.{integer_element, integer_number}

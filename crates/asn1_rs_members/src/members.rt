@@ -1,7 +1,7 @@
 //! A generic caller of lawful members of sets.
 ghost use Rattle.std.specs.Prelude.{◌≡◌, ◌↔◌, IsTrue};
 
-use asn1_rs::{Grammar, LawfulMember};
+use asn1_rs::laws::{Grammar, LawfulMember};
 
 /// Lists of numbers, which may be members of a set.
 pub type Numbers = Vec<u8>;

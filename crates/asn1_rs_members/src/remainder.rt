@@ -9,10 +9,10 @@ ghost use Rattle.x690.specs.Integers.{unsigned_octets};
 ghost use Rattle.asn1_rs_members.specs.Remainders.{remainder, valued_reading, valued_exact, valued_written};
 ghost use Rattle.asn1_rs_members.specs.Remainders.{whole as value};
 
-use asn1_rs::{
-    Any, ConvertsLeaf, DerBuffer, DerElement, DerWrite, ElementKind, Error, HasKind, LeafType,
-    SerializeResult, TagNumber, WritesElement,
+use asn1_rs::author::{
+    ConvertsLeaf, DerElement, ElementKind, HasKind, LeafType, TagNumber, WritesElement,
 };
+use asn1_rs::{Any, DerBuffer, DerWrite, Error, SerializeResult};
 use std::alloc::Global;
 use std::cmp::Ordering;
 use std::hash::{Hash, Hasher};

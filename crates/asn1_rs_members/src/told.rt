@@ -1,8 +1,8 @@
 //! A struct whose optional field has another tag number than the field behind it. The laws of the struct ask for that.
-ghost use Rattle.std.proofs.Common.{refl};
-ghost use Rattle.asn1_rs.specs.Structs.Data.{struct_of};
+ghost use Rattle.asn1_rs.specs.Prelude.{refl, struct_of};
 
-use asn1_rs::{BorrowedRow, Fields, FieldsKind, HasKind, LawfulStruct, Row, SerializeResult};
+use asn1_rs::SerializeResult;
+use asn1_rs::author::{BorrowedRow, Fields, FieldsKind, HasKind, LawfulStruct, Row};
 
 /// A level, before which a flag may stand.
 ///

@@ -1,15 +1,14 @@
 //! A message with two optional fields and a list, by both rules.
-ghost use Rattle.std.proofs.Common.{refl};
-ghost use Rattle.asn1_headers.specs.Answers.{seen};
-ghost use Rattle.asn1_rs.specs.Structs.{MadeOf};
-ghost use Rattle.asn1_rs.specs.Structs.Data.{struct_of};
-ghost use Rattle.asn1_rs.specs.Callers.{ReadsByDer, ReadsByBer, WritesStrict};
+ghost use Rattle.asn1_rs.specs.Prelude.{MadeOf, ReadsByBer, ReadsByDer, refl, seen, struct_of, WritesStrict};
 
+use asn1_rs::author::{
+    AlwaysDerBy, BorrowedRow, DerRow, Fields, FieldsKind, HasKind, HasReader, LawfulStruct,
+    ReadsFields, ReadsFieldsByBer, ReadsRow, Row, StructReader, row_by_ber, row_by_der,
+};
+use asn1_rs::laws::{AlwaysDer, Grammar};
 use asn1_rs::{
-    AlwaysDer, AlwaysDerBy, BerParser, BorrowedRow, DerParser, DerRow, Error, Fields, FieldsKind,
-    Grammar, HasKind, HasReader, LawfulStruct, ParseResult, ReadsFields, ReadsFieldsByBer,
-    ReadsRow, Row, SerializeResult, StructReader, TaggedExplicit, ToDer, read_ber, read_der,
-    row_by_ber, row_by_der, strict_vec,
+    BerParser, DerParser, Error, ParseResult, SerializeResult, TaggedExplicit, ToDer, read_ber,
+    read_der, strict_vec,
 };
 use std::alloc::Global;
 

@@ -1,16 +1,15 @@
 //! Content of a type that an identifier says (RFC 2315, 7). Attributes have values of such a type (RFC 2986, 4.1). Both
 //! are read by BER and by DER, and borrowed from the octets.
-ghost use Rattle.std.proofs.Common.{refl};
-ghost use Rattle.asn1_headers.specs.Answers.{seen};
-ghost use Rattle.asn1_rs.specs.Structs.{MadeOf};
-ghost use Rattle.asn1_rs.specs.Structs.Data.{struct_of};
-ghost use Rattle.asn1_rs.specs.Callers.{ReadsByDer, ReadsByBer, WritesStrict};
+ghost use Rattle.asn1_rs.specs.Prelude.{MadeOf, ReadsByBer, ReadsByDer, refl, seen, struct_of, WritesStrict};
 
+use asn1_rs::author::{
+    BorrowedRow, Fields, FieldsKind, HasKind, HasReader, LawfulStruct, OfRow, ReadsFields,
+    ReadsFieldsByBer, ReadsRow, Row, StructReader, struct_by_ber, struct_by_der,
+};
+use asn1_rs::laws::Grammar;
 use asn1_rs::{
-    Any, BerParser, BorrowedRow, DerParser, Error, Fields, FieldsKind, Grammar, HasKind, HasReader,
-    LawfulStruct, OfRow, Oid, ParseResult, ReadsFields, ReadsFieldsByBer, ReadsRow, Row,
-    SerializeResult, SetOf, StructReader, TaggedExplicit, ToDer, read_ber, read_der, strict_vec,
-    struct_by_ber, struct_by_der,
+    Any, BerParser, DerParser, Error, Oid, ParseResult, SerializeResult, SetOf, TaggedExplicit,
+    ToDer, read_ber, read_der, strict_vec,
 };
 use std::alloc::Global;
 

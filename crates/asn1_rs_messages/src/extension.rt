@@ -1,19 +1,17 @@
 //! An extension of a certificate (RFC 5280, 4.1), with a field that has a default. It is read by BER and by DER, and
 //! borrowed from the octets.
 ghost use Rattle.std.specs.Prelude.{◌≡◌, IfOk, IfErr};
-ghost use Rattle.std.proofs.Common.{refl};
-ghost use Rattle.asn1_headers.specs.Answers.{seen};
-ghost use Rattle.asn1_headers.specs.declared.error.Error.TheVariants as errors;
-ghost use Rattle.asn1_rs.specs.Copies.{copied_by};
-ghost use Rattle.asn1_rs.specs.Structs.{MadeOf};
-ghost use Rattle.asn1_rs.specs.Structs.Data.{struct_of};
-ghost use Rattle.asn1_rs.specs.Callers.{ReadsByDer, ReadsByBer, WritesStrict};
+ghost use Rattle.asn1_rs.specs.Prelude.{copied_by, MadeOf, OutOfMemory, ReadsByBer, ReadsByDer, refl, seen};
+ghost use Rattle.asn1_rs.specs.Prelude.{struct_of, WritesStrict};
 
+use asn1_rs::author::{
+    BorrowedRow, Fields, FieldsKind, HasKind, HasReader, LawfulStruct, ReadsFields,
+    ReadsFieldsByBer, ReadsRow, Row, StructReader, row_by_ber, row_by_der,
+};
+use asn1_rs::laws::Grammar;
 use asn1_rs::{
-    BerParser, BorrowedRow, DefaultFalse, Defaulted, DerParser, Error, Fields, FieldsKind, Grammar,
-    HasKind, HasReader, LawfulStruct, OctetString, Oid, ParseResult, ReadsFields, ReadsFieldsByBer,
-    ReadsRow, Row, SerializeResult, StructReader, ToDer, ToStatic, read_ber, read_der, row_by_ber,
-    row_by_der, strict_vec,
+    BerParser, DefaultFalse, Defaulted, DerParser, Error, OctetString, Oid, ParseResult,
+    SerializeResult, ToDer, ToStatic, read_ber, read_der, strict_vec,
 };
 use std::alloc::Global;
 
@@ -150,7 +148,7 @@ pub fn extension_vec(alloc: Global, extension: &Extension<'_>) -> SerializeResul
 pub fn kept_extension(alloc: Global, extension: &Extension<'_>) -> Result<Extension<'static>, Error>
     ensures copied { IfOk result (λ copy. ⟦<Extension<'static> as Grammar>⟧.grammar.value copy ≡
         ⟦<Extension<'static> as Grammar>⟧.grammar.value extension.now) }
-    ensures refused { IfErr result (λ e. e ≡ errors.OutOfMemory) }
+    ensures refused { IfErr result (λ e. e ≡ OutOfMemory) }
 {
     extension.to_static(alloc)
 }

@@ -1,20 +1,20 @@
 //! A certificate by its hash (RFC 5035, 4), with a field whose default is a struct. It is read by DER, and borrowed
 //! from the octets.
 ghost use Rattle.std.specs.Prelude.{◌≡◌, None};
-ghost use Rattle.std.proofs.Common.{refl};
-ghost use Rattle.asn1_headers.specs.Answers.{seen};
+ghost use Rattle.asn1_rs.specs.Prelude.{its_own_type, MadeOf, ReadsByDer, refl, seen, struct_of, WritesStrict};
 ghost use Rattle.asn1_rs.specs.Oid.{absolute, oid_value};
-ghost use Rattle.asn1_rs.specs.Structs.{MadeOf};
-ghost use Rattle.asn1_rs.specs.Structs.Data.{struct_of};
-ghost use Rattle.asn1_rs.specs.Structs.DefaultTypes.{default_of_key, its_own_type, lent_oid, octets_fit};
-ghost use Rattle.asn1_rs.specs.Callers.{ReadsByDer, WritesStrict};
+ghost use Rattle.asn1_rs.specs.Structs.DefaultTypes.{default_of_key, lent_oid, octets_fit};
 ghost use Rattle.asn1_rs_messages.specs.Hashed.{sha256_octets};
 
 use crate::public_key::AlgorithmIdentifier;
+use asn1_rs::author::{
+    BorrowedRow, DefaultOf, Fields, FieldsKind, HasKind, HasReader, KeyType, LawfulStruct, OfRow,
+    ReadsFields, ReadsRow, Row, StructReader, struct_by_der,
+};
+use asn1_rs::laws::Grammar;
 use asn1_rs::{
-    Any, BorrowedRow, DefaultOf, Defaulted, DerParser, Error, Fields, FieldsKind, Grammar, HasKind,
-    HasReader, Integer, KeyType, LawfulStruct, OctetString, OfRow, Oid, ParseResult, ReadsFields,
-    ReadsRow, Row, SerializeResult, StructReader, ToDer, read_der, strict_vec, struct_by_der,
+    Any, Defaulted, DerParser, Error, Integer, OctetString, Oid, ParseResult, SerializeResult,
+    ToDer, read_der, strict_vec,
 };
 use std::alloc::Global;
 use std::borrow::CowSlice;

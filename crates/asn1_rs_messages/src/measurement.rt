@@ -1,17 +1,15 @@
 //! A message of two numbers and one that may be left out, by both rules.
-ghost use Rattle.std.proofs.Common.{refl};
-ghost use Rattle.asn1_headers.specs.Answers.{seen};
-ghost use Rattle.asn1_rs.specs.Structs.{MadeOf};
-ghost use Rattle.asn1_rs.specs.Structs.Data.{struct_of, struct_type};
-ghost use Rattle.asn1_rs.specs.Structs.Keys.{key_of};
-ghost use Rattle.asn1_rs.specs.Structs.Members.{struct_members};
-ghost use Rattle.asn1_rs.specs.Callers.{ReadsByDer, ReadsByBer, WritesStrict};
+ghost use Rattle.asn1_rs.specs.Prelude.{key_of, MadeOf, ReadsByBer, ReadsByDer, refl, seen, struct_members};
+ghost use Rattle.asn1_rs.specs.Prelude.{struct_of, struct_type, WritesStrict};
 
+use asn1_rs::author::{
+    AlwaysDerBy, Fields, FieldsKind, HasKind, HasReader, KeyType, LawfulStruct, MemberRow,
+    ReadsFields, ReadsFieldsByBer, ReadsRow, Row, StructReader,
+};
+use asn1_rs::laws::{AlwaysDer, Grammar, LawfulMember};
 use asn1_rs::{
-    AlwaysDer, AlwaysDerBy, BerParser, BorrowedRow, DerParser, DerRow, Error, Fields, FieldsKind,
-    Grammar, HasKind, HasReader, KeyType, LawfulMember, LawfulStruct, MemberRow, ParseResult,
-    ReadsFields, ReadsFieldsByBer, ReadsRow, Row, SerializeResult, StructReader, ToDer, read_ber,
-    read_der, row_by_ber, row_by_der, strict_vec,
+    BerParser, DerParser, Error, ParseResult, SerializeResult, ToDer, fields_in_der,
+    fields_in_hand, put_fields, read_ber, read_der, read_fields, strict_vec,
 };
 use std::alloc::Global;
 use std::collections::BTreeSet;
@@ -45,11 +43,11 @@ impl LawfulStruct for Measurement {
         ⟦<MeasurementRow as Row>⟧.row_laws refl };
 
     fn put_row(&self, fields: &mut Fields) -> SerializeResult<()> {
-        (&self.place, (&self.value, (&self.error, ()))).put_each(fields)
+        put_fields!(self, fields => place, value, error)
     }
 
     fn row_in_hand(&self) {
-        (&self.place, (&self.value, (&self.error, ()))).each_in_hand()
+        fields_in_hand!(self => place, value, error)
     }
 }
 
@@ -58,17 +56,7 @@ impl<'a> ReadsFields<'a> for Measurement {
         ⟦<MeasurementRow as ReadsRow<'a, DerParser>>⟧.row_gives };
 
     fn read_fields(alloc: Global, octets: &'a [u8]) -> Result<Measurement, Error> {
-        match row_by_der(alloc, octets) {
-            Ok(row) => {
-                let (place, (value, (error, ()))) = row;
-                Ok(Measurement {
-                    place,
-                    value,
-                    error,
-                })
-            }
-            Err(e) => Err(e),
-        }
+        read_fields!(row_by_der, alloc, octets => Measurement { place, value, error })
     }
 }
 
@@ -77,24 +65,14 @@ impl<'a> ReadsFieldsByBer<'a> for Measurement {
         ⟦<MeasurementRow as ReadsRow<'a, BerParser>>⟧.row_gives };
 
     fn read_fields_by_ber(alloc: Global, octets: &'a [u8]) -> Result<Measurement, Error> {
-        match row_by_ber(alloc, octets) {
-            Ok(row) => {
-                let (place, (value, (error, ()))) = row;
-                Ok(Measurement {
-                    place,
-                    value,
-                    error,
-                })
-            }
-            Err(e) => Err(e),
-        }
+        read_fields!(row_by_ber, alloc, octets => Measurement { place, value, error })
     }
 }
 
 /// Each measurement in hand is in DER form, since its fields are.
 impl AlwaysDerBy<FieldsKind> for Measurement {
     fn der_by_kind(&self) {
-        (&self.place, (&self.value, (&self.error, ()))).each_is_der()
+        fields_in_der!(self => place, value, error)
     }
 }
 

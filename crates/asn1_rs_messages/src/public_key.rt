@@ -1,17 +1,16 @@
 //! The public key of a certificate and the algorithm that the key is for (RFC 5280, 4.1). Both are read by DER, and
 //! borrowed from the octets.
-ghost use Rattle.std.proofs.Common.{refl};
-ghost use Rattle.asn1_headers.specs.Answers.{seen};
-ghost use Rattle.asn1_rs.specs.Structs.{MadeOf};
-ghost use Rattle.asn1_rs.specs.Structs.Data.{struct_of, struct_type};
-ghost use Rattle.asn1_rs.specs.Structs.Keys.{key_of};
-ghost use Rattle.asn1_rs.specs.Structs.Members.{struct_members};
-ghost use Rattle.asn1_rs.specs.Callers.{ReadsByDer, WritesStrict};
+ghost use Rattle.asn1_rs.specs.Prelude.{key_of, MadeOf, ReadsByDer, refl, seen, struct_members, struct_of};
+ghost use Rattle.asn1_rs.specs.Prelude.{struct_type, WritesStrict};
 
+use asn1_rs::author::{
+    BorrowedRow, Fields, FieldsKind, HasKind, HasReader, KeyType, LawfulStruct, MemberRow,
+    ReadsFields, ReadsRow, Row, StructReader, row_by_der,
+};
+use asn1_rs::laws::{Grammar, LawfulMember};
 use asn1_rs::{
-    Any, BitString, BorrowedRow, DerParser, Error, Fields, FieldsKind, Grammar, HasKind, HasReader,
-    KeyType, LawfulMember, LawfulStruct, MemberRow, Oid, ParseResult, ReadsFields, ReadsRow, Row,
-    SerializeResult, StructReader, ToDer, read_der, row_by_der, strict_vec,
+    Any, BitString, DerParser, Error, Oid, ParseResult, SerializeResult, ToDer, read_der,
+    strict_vec,
 };
 use std::alloc::Global;
 

@@ -1,17 +1,18 @@
 //! A message all of whose fields have a default, by both rules.
-ghost use Rattle.std.proofs.Common.{refl, negsuc, lit<};
-ghost use Rattle.asn1_headers.specs.Answers.{seen};
-ghost use Rattle.asn1_rs.specs.Structs.{MadeOf};
-ghost use Rattle.asn1_rs.specs.Structs.Data.{struct_of};
+ghost use Rattle.asn1_rs.specs.Prelude.{its_own_type, MadeOf, ReadsByBer, ReadsByDer, refl, seen, struct_of};
+ghost use Rattle.std.proofs.Common.{negsuc, lit<};
 ghost use Rattle.asn1_rs.specs.Structs.DefaultTypes.{default_unsigned, default_signed, default_enumerated, default_empty};
-ghost use Rattle.asn1_rs.specs.Structs.DefaultTypes.{default_explicit, default_implicit, negative_fits, its_own_type};
-ghost use Rattle.asn1_rs.specs.Callers.{ReadsByDer, ReadsByBer};
+ghost use Rattle.asn1_rs.specs.Structs.DefaultTypes.{default_explicit, default_implicit, negative_fits};
 
+use asn1_rs::author::{
+    AlwaysDerBy, BorrowedRow, DefaultOf, DerRow, Fields, FieldsKind, HasKind, HasReader,
+    LawfulStruct, LawfulType, ReadsFields, ReadsFieldsByBer, ReadsRow, Row, StructReader,
+    row_by_ber, row_by_der,
+};
+use asn1_rs::laws::Grammar;
 use asn1_rs::{
-    AlwaysDerBy, BerParser, BorrowedRow, DefaultOf, Defaulted, DerParser, DerRow, Enumerated,
-    Error, Fields, FieldsKind, Grammar, HasKind, HasReader, LawfulStruct, LawfulType, ParseResult,
-    ReadsFields, ReadsFieldsByBer, ReadsRow, Row, SerializeResult, StructReader, TaggedExplicit,
-    TaggedImplicit, read_ber, read_der, row_by_ber, row_by_der,
+    BerParser, Defaulted, DerParser, Enumerated, Error, ParseResult, SerializeResult,
+    TaggedExplicit, TaggedImplicit, read_ber, read_der,
 };
 use std::alloc::Global;
 

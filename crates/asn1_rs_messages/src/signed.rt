@@ -1,17 +1,15 @@
 //! A message in which values stand under tags that the sender picks, by both rules, borrowed from the octets.
-ghost use Rattle.std.proofs.Common.{refl};
-ghost use Rattle.asn1_headers.specs.Answers.{seen};
-ghost use Rattle.asn1_rs.specs.Structs.{MadeOf};
-ghost use Rattle.asn1_rs.specs.Structs.Data.{struct_of, struct_type};
-ghost use Rattle.asn1_rs.specs.Structs.Keys.{key_of};
-ghost use Rattle.asn1_rs.specs.Structs.Members.{struct_members};
-ghost use Rattle.asn1_rs.specs.Callers.{ReadsByDer, ReadsByBer, WritesStrict};
+ghost use Rattle.asn1_rs.specs.Prelude.{key_of, MadeOf, ReadsByBer, ReadsByDer, refl, seen, struct_members};
+ghost use Rattle.asn1_rs.specs.Prelude.{struct_of, struct_type, WritesStrict};
 
+use asn1_rs::author::{
+    BorrowedRow, Fields, FieldsKind, HasKind, HasReader, KeyType, LawfulStruct, MemberRow,
+    ReadsFields, ReadsFieldsByBer, ReadsRow, Row, StructReader, row_by_ber, row_by_der,
+};
+use asn1_rs::laws::{Grammar, LawfulMember};
 use asn1_rs::{
-    BerParser, BorrowedRow, DerParser, Error, Explicit, Fields, FieldsKind, Grammar, HasKind,
-    HasReader, Implicit, KeyType, LawfulMember, LawfulStruct, MemberRow, OctetString, ParseResult,
-    ReadsFields, ReadsFieldsByBer, ReadsRow, Row, SerializeResult, StructReader, TaggedParser,
-    ToDer, read_ber, read_der, row_by_ber, row_by_der, strict_vec,
+    BerParser, DerParser, Error, Explicit, Implicit, OctetString, ParseResult, SerializeResult,
+    TaggedParser, ToDer, read_ber, read_der, strict_vec,
 };
 use std::alloc::Global;
 

@@ -1,19 +1,19 @@
 //! A choice of values under tags and of a struct, by both rules.
-ghost use Rattle.std.proofs.Common.{refl};
-ghost use Rattle.asn1_headers.specs.Answers.{seen};
-ghost use Rattle.asn1_rs.specs.Choices.{ChoiceReads, ChoiceGives};
-ghost use Rattle.asn1_rs.specs.Choices.Data.{choice_of};
+ghost use Rattle.asn1_rs.specs.Prelude.{choice_of, ChoiceGives, ChoiceReads, ReadsByBer, ReadsByDer, refl, seen};
+ghost use Rattle.asn1_rs.specs.Prelude.{WritesStrict};
 ghost use Rattle.asn1_rs.specs.declared.choices.arms.Or.TheVariants as arm;
-ghost use Rattle.asn1_rs.specs.Callers.{ReadsByDer, ReadsByBer, WritesStrict};
 ghost use Rattle.asn1_rs_messages.specs.declared.source.Source.TheVariants as sources;
 
 use crate::measurement::Measurement;
+use asn1_rs::author::{
+    AlwaysDerBy, Arms, ChecksChoice, ChoiceKind, ChoiceReader, HasKind, HasReader, LawfulChoice,
+    Never, OfArms, Or, OrTagged, OrUniversal, ReadsArms, ReadsChoice, ReadsChoiceByBer, TakesArms,
+    UsesArm, check_element, choice_by_der, choice_of_element,
+};
+use asn1_rs::laws::{AlwaysDer, Grammar};
 use asn1_rs::{
-    AlwaysDer, AlwaysDerBy, Any, Arms, ChecksChoice, ChoiceKind, ChoiceReader, DynTagged, Error,
-    Grammar, HasKind, HasReader, LawfulChoice, Never, OfArms, Or, OrTagged, OrUniversal,
-    ParseResult, ReadsArms, ReadsChoice, ReadsChoiceByBer, SerializeResult, Tag, TaggedExplicit,
-    TaggedImplicit, TakesArms, ToDer, UsesArm, check_element, choice_by_der, choice_of_element,
-    read_ber, read_der, strict_vec,
+    Any, DynTagged, Error, ParseResult, SerializeResult, Tag, TaggedExplicit, TaggedImplicit,
+    ToDer, read_ber, read_der, strict_vec,
 };
 use std::alloc::Global;
 

@@ -1,15 +1,15 @@
 //! A message with sets without repetitions as fields, by both rules.
-ghost use Rattle.std.proofs.Common.{refl};
-ghost use Rattle.asn1_headers.specs.Answers.{seen};
-ghost use Rattle.asn1_rs.specs.Structs.{MadeOf};
-ghost use Rattle.asn1_rs.specs.Structs.Data.{struct_of};
-ghost use Rattle.asn1_rs.specs.Callers.{ReadsByDer, ReadsByBer, WritesStrict};
+ghost use Rattle.asn1_rs.specs.Prelude.{MadeOf, ReadsByBer, ReadsByDer, refl, seen, struct_of, WritesStrict};
 
 use crate::Measurement;
+use asn1_rs::author::{
+    BorrowedRow, Fields, FieldsKind, HasKind, HasReader, LawfulStruct, ReadsFields,
+    ReadsFieldsByBer, ReadsRow, Row, StructReader, row_by_ber, row_by_der,
+};
+use asn1_rs::laws::Grammar;
 use asn1_rs::{
-    BerParser, BmpString, Boolean, BorrowedRow, DerParser, Error, Fields, FieldsKind, Grammar,
-    HasKind, HasReader, LawfulStruct, ParseResult, ReadsFields, ReadsFieldsByBer, ReadsRow, Row,
-    SerializeResult, StructReader, ToDer, read_ber, read_der, row_by_ber, row_by_der, strict_vec,
+    BerParser, BmpString, Boolean, DerParser, Error, ParseResult, SerializeResult, ToDer, read_ber,
+    read_der, strict_vec,
 };
 use std::alloc::Global;
 use std::collections::{BTreeSet, HashSet};

@@ -1,18 +1,18 @@
 //! The times of certificates: a choice of two types (RFC 5280, 4.1.2.5), by both rules.
-ghost use Rattle.std.proofs.Common.{refl};
-ghost use Rattle.asn1_headers.specs.Answers.{seen};
-ghost use Rattle.asn1_rs.specs.Choices.{ChoiceReads, ChoiceGives};
-ghost use Rattle.asn1_rs.specs.Choices.Data.{choice_of, choice_type, numbers_of_choice, choice_numbers};
+ghost use Rattle.asn1_rs.specs.Prelude.{choice_numbers, choice_of, choice_type, ChoiceGives, ChoiceReads};
+ghost use Rattle.asn1_rs.specs.Prelude.{numbers_of_choice, ReadsByBer, ReadsByDer, refl, seen, WritesStrict};
 ghost use Rattle.asn1_rs.specs.declared.choices.arms.Or.TheVariants as arm;
-ghost use Rattle.asn1_rs.specs.Callers.{ReadsByDer, ReadsByBer, WritesStrict};
 ghost use Rattle.asn1_rs_messages.specs.declared.time.Time.TheVariants as times;
 
+use asn1_rs::author::{
+    ArmNumbers, Arms, ChecksChoice, ChoiceKind, ChoiceReader, HasKind, HasReader, LawfulChoice,
+    LawfulType, Never, OfArms, Or, OrUniversal, ReadsArms, ReadsChoice, ReadsChoiceByBer,
+    TakesArms, ToldByNumber, UsesArm, check_element, choice_by_der, choice_of_element,
+};
+use asn1_rs::laws::Grammar;
 use asn1_rs::{
-    Any, ArmNumbers, Arms, ChecksChoice, ChoiceKind, ChoiceReader, DynTagged, Error,
-    GeneralizedTime, Grammar, HasKind, HasReader, LawfulChoice, LawfulType, Never, OfArms, Or,
-    OrUniversal, ParseResult, ReadsArms, ReadsChoice, ReadsChoiceByBer, SerializeResult, SetOf,
-    Tag, TaggedExplicit, TakesArms, ToDer, ToldByNumber, UsesArm, UtcTime, check_element,
-    choice_by_der, choice_of_element, read_ber, read_der, strict_vec,
+    Any, DynTagged, Error, GeneralizedTime, ParseResult, SerializeResult, SetOf, Tag,
+    TaggedExplicit, ToDer, UtcTime, read_ber, read_der, strict_vec,
 };
 use std::alloc::Global;
 

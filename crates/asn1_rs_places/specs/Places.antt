@@ -2,12 +2,11 @@
 -- too.
 use Rattle.std.specs.Prelude.{◌≡◌, ◌⊎◌, ◌+◌, ◌-◌, ◌^◌, ℕ, zero, suc, List, [], ◌∷◌, length, take, true, min}
 use Rattle.std.specs.Prelude.{Option, Some, None, Result, Ok, Err}
-use Rattle.asn1_headers.specs.Class.{class_number}
+use Rattle.asn1_rs.specs.Prelude.{class_number, Error}
 use Rattle.asn1_headers.specs.Header.{class_of, is_constructed_of, tag_of, length_of}
 use Rattle.asn1_headers.specs.Header.Reading.{HeaderGives, ber_refusal}
 use Rattle.asn1_headers.specs.declared.class.Class.{Class}
 use Rattle.asn1_headers.specs.declared.error.Err.{Err as Refusal}
-use Rattle.asn1_headers.specs.declared.error.Error.{Error}
 use Rattle.asn1_headers.specs.declared.header.Header.{Header}
 use Rattle.asn1_headers.specs.declared.length.Length.{Length}
 use Rattle.asn1_headers.specs.declared.length.Length.TheVariants.{Definite, Indefinite}

@@ -1,8 +1,7 @@
 //! How a refusal is told of a part of a value: one way for each make of types.
 ghost use Rattle.std.specs.Prelude.{◌≡◌, ℕ, List, Result, MatchOption};
-ghost use Rattle.asn1_headers.specs.Answers.{seen};
+ghost use Rattle.asn1_rs.specs.Prelude.{Error, seen};
 ghost use Rattle.asn1_headers.specs.declared.error.Err.{Err as Refusal};
-ghost use Rattle.asn1_headers.specs.declared.error.Error.{Error};
 ghost use Rattle.asn1_rs_places.specs.declared.refused.Refused.{Refused};
 ghost use Rattle.asn1_rs_places.specs.Places.{IsNotLookedInto, IsToldWith, TellsNothing};
 

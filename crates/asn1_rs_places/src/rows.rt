@@ -5,7 +5,7 @@ ghost use Rattle.asn1_rs_places.specs.Places.{IsBehindLast, IsInRest, IsInRow, T
 
 use crate::looks::{LooksInto, Whole, told};
 use crate::refused::{Refused, Step};
-use asn1_rs::{ReadsBy, ReadsField, ReadsRow};
+use asn1_rs::author::{ReadsBy, ReadsField, ReadsRow};
 use std::alloc::Global;
 
 /// A way to look into a row that is read by the parser `P`, where it is refused.

@@ -7,10 +7,8 @@ use crate::contents::opened;
 use crate::looks::{LooksInto, ReadsValue};
 use crate::refused::Refused;
 use crate::rows::LooksIntoRow;
-use asn1_rs::{
-    Any, BerParser, DerParser, Error, Implicit, ReadsBy, ReadsFields, ReadsFieldsByBer, ReadsRow,
-    TaggedValue,
-};
+use asn1_rs::author::{ReadsBy, ReadsFields, ReadsFieldsByBer, ReadsRow};
+use asn1_rs::{Any, BerParser, DerParser, Error, Implicit, TaggedValue};
 use std::alloc::Global;
 use std::marker::PhantomData;
 

@@ -1,13 +1,13 @@
 -- What requests and notices hold, with its laws. Which arm a request is, and which a notice is, with the laws of these.
 use Rattle.std.specs.Prelude.{ℕ, refl}
-use Rattle.asn1_headers.specs.declared.error.Error.{Error}
+use Rattle.asn1_rs.specs.Prelude.{choice_of, Error, struct_of, struct_type}
 use Rattle.asn1_rs.specs.declared.asn1_types.tagged.Implicit.{Implicit}
 use Rattle.asn1_rs.specs.declared.asn1_types.tagged.TaggedValue.{TaggedValue}
 use Rattle.asn1_rs.specs.declared.choices.arms.Never.{Never}
 use Rattle.asn1_rs.specs.declared.choices.arms.Or.{Or}
 use Rattle.asn1_rs.specs.declared.choices.arms.Or.TheVariants as arm
-use Rattle.asn1_rs.specs.Choices.Data.{LawfulChoiceOf, arm_before, choice_of, end_of_arms}
-use Rattle.asn1_rs.specs.Structs.Data.{LawfulStructOf, LawfulTypeOf, end_row, field_of, struct_of, struct_type, then_row}
+use Rattle.asn1_rs.specs.Choices.Data.{LawfulChoiceOf, arm_before, end_of_arms}
+use Rattle.asn1_rs.specs.Structs.Data.{LawfulStructOf, LawfulTypeOf, end_row, field_of, then_row}
 use Rattle.asn1_rs.specs.Structs.Types.{implicit_type, list_type, signed_type, unsigned_type}
 use Rattle.asn1_rs_choices.specs.Parts.Data.{choice_before}
 use Rattle.asn1_rs_choices.specs.declared.arms.OrChoice.{OrChoice}

@@ -1,21 +1,17 @@
 //! Values under tags of the application class (RFC 3416, 3).
-ghost use Rattle.std.proofs.Common.{refl};
+ghost use Rattle.asn1_rs.specs.Prelude.{ChecksOf, choice_numbers, choice_of, choice_type, class_number, has_a_class};
+ghost use Rattle.asn1_rs.specs.Prelude.{has_a_tag, is_one_of, numbers_of_choice, parts_of, refl};
 ghost use Rattle.std.specs.Prelude.{◌≡◌};
-ghost use Rattle.asn1_headers.specs.Class.{class_number};
-ghost use Rattle.asn1_rs.specs.Any.{parts_of};
-ghost use Rattle.asn1_rs.specs.Choices.{has_a_tag, has_a_class};
-ghost use Rattle.asn1_rs.specs.Structs.{is_one_of};
-ghost use Rattle.asn1_rs.specs.Choices.Data.{choice_of, ChecksOf, choice_type, numbers_of_choice, choice_numbers};
 ghost use Rattle.asn1_rs.specs.declared.choices.arms.Or.TheVariants as arm;
 ghost use Rattle.asn1_rs_choices.specs.declared.arms.OrChoice.TheVariants as part;
 ghost use Rattle.asn1_rs_snmp.specs.declared.application.ApplicationSyntax.TheVariants as wides;
 
 use crate::numbers::ApplicationNumber;
-use asn1_rs::{
-    Any, ApplicationImplicit, ArmNumbers, Arms, ChecksChoice, ChoiceKind, ChoiceReader, Class,
-    DynTagged, Error, HasKind, HasReader, LawfulChoice, LawfulType, Never, OctetString, OfArms, Or,
-    ReadsChoiceByBer, Tag, ToldByNumber, UsesArm, choice_of_element,
+use asn1_rs::author::{
+    ArmNumbers, Arms, ChecksChoice, ChoiceKind, ChoiceReader, HasKind, HasReader, LawfulChoice,
+    LawfulType, Never, OfArms, Or, ReadsChoiceByBer, ToldByNumber, UsesArm, choice_of_element,
 };
+use asn1_rs::{Any, ApplicationImplicit, Class, DynTagged, Error, OctetString, Tag};
 use asn1_rs_choices::{OrChoice, TellsArms, ToldChoice, check_arms};
 use std::alloc::Global;
 

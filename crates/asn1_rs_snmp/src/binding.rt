@@ -1,16 +1,16 @@
 //! Variable bindings (RFC 3416, 3).
-ghost use Rattle.asn1_headers.specs.Answers.{seen};
-ghost use Rattle.asn1_rs.specs.Callers.{ReadsByBer, WritesStrict};
-ghost use Rattle.asn1_rs.specs.Grammar.Item.{ber_words};
-ghost use Rattle.asn1_rs.specs.Structs.{MadeOf};
-ghost use Rattle.asn1_rs.specs.Whole.{IsWhole};
+ghost use Rattle.asn1_rs.specs.Prelude.{ber_words, IsWhole, MadeOf, ReadsByBer, seen, WritesStrict};
 ghost use Rattle.asn1_rs_snmp.specs.Messages.{var_bind_laws};
 
 use crate::value::BindingValue;
+use asn1_rs::author::{
+    BorrowedRow, Fields, FieldsKind, HasKind, HasReader, LawfulStruct, ReadsFieldsByBer, ReadsRow,
+    Row, StructReader, row_by_ber,
+};
+use asn1_rs::laws::Grammar;
 use asn1_rs::{
-    BerParser, BorrowedRow, Error, Fields, FieldsKind, Grammar, HasKind, HasReader, LawfulStruct,
-    Oid, ParseResult, ReadsFieldsByBer, ReadsRow, Row, SerializeResult, StructReader, ToDer,
-    read_ber, read_ber_whole, row_by_ber, strict_vec,
+    BerParser, Error, Oid, ParseResult, SerializeResult, ToDer, read_ber, read_ber_whole,
+    strict_vec,
 };
 use std::alloc::Global;
 

@@ -1,17 +1,16 @@
 //! Messages of a community (RFC 1901, 3).
-ghost use Rattle.std.proofs.Common.{refl};
-ghost use Rattle.asn1_rs.specs.Structs.{MadeOf};
-ghost use Rattle.asn1_rs.specs.Structs.Data.{struct_of};
-ghost use Rattle.asn1_headers.specs.Answers.{seen};
-ghost use Rattle.asn1_rs.specs.Grammar.Item.{ber_words};
-ghost use Rattle.asn1_rs.specs.Whole.{IsWhole, TakesWhole};
-ghost use Rattle.asn1_rs.specs.Callers.{ReadsByBer, WritesStrict};
+ghost use Rattle.asn1_rs.specs.Prelude.{ber_words, IsWhole, MadeOf, ReadsByBer, refl, seen, struct_of, TakesWhole};
+ghost use Rattle.asn1_rs.specs.Prelude.{WritesStrict};
 
 use crate::pdus::Pdus;
+use asn1_rs::author::{
+    BorrowedRow, Fields, FieldsKind, HasKind, HasReader, LawfulStruct, ReadsFieldsByBer, ReadsRow,
+    Row, StructReader, row_by_ber,
+};
+use asn1_rs::laws::Grammar;
 use asn1_rs::{
-    BerParser, BorrowedRow, Error, Fields, FieldsKind, FromBer, Grammar, HasKind, HasReader,
-    LawfulStruct, OctetString, ParseResult, ReadsFieldsByBer, ReadsRow, Row, SerializeResult,
-    StructReader, ToDer, read_ber, read_ber_whole, row_by_ber, strict_vec,
+    BerParser, Error, FromBer, OctetString, ParseResult, SerializeResult, ToDer, read_ber,
+    read_ber_whole, strict_vec,
 };
 use std::alloc::Global;
 

@@ -1,14 +1,13 @@
 //! Numbers under tags of the application class (RFC 3416, 3).
-ghost use Rattle.std.proofs.Common.{refl};
-ghost use Rattle.asn1_rs.specs.Choices.Data.{choice_of, choice_type, numbers_of_choice, choice_numbers};
+ghost use Rattle.asn1_rs.specs.Prelude.{choice_numbers, choice_of, choice_type, numbers_of_choice, refl};
 ghost use Rattle.asn1_rs.specs.declared.choices.arms.Or.TheVariants as arm;
 ghost use Rattle.asn1_rs_snmp.specs.declared.numbers.ApplicationNumber.TheVariants as numbers;
 
-use asn1_rs::{
-    Any, ApplicationImplicit, ArmNumbers, Arms, ChecksChoice, ChoiceKind, ChoiceReader, Class,
-    DynTagged, Error, HasKind, HasReader, LawfulChoice, LawfulType, Never, OfArms, Or,
-    ReadsChoiceByBer, Tag, ToldByNumber, UsesArm, choice_of_element,
+use asn1_rs::author::{
+    ArmNumbers, Arms, ChecksChoice, ChoiceKind, ChoiceReader, HasKind, HasReader, LawfulChoice,
+    LawfulType, Never, OfArms, Or, ReadsChoiceByBer, ToldByNumber, UsesArm, choice_of_element,
 };
+use asn1_rs::{Any, ApplicationImplicit, Class, DynTagged, Error, Tag};
 use asn1_rs_choices::{TellsArms, ToldChoice, check_arms};
 use std::alloc::Global;
 

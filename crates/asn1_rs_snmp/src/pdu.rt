@@ -1,12 +1,13 @@
 //! What requests and answers hold (RFC 3416, 3).
-ghost use Rattle.asn1_rs.specs.Structs.{MadeOf};
+ghost use Rattle.asn1_rs.specs.Prelude.{MadeOf};
 ghost use Rattle.asn1_rs_snmp.specs.Pdus.{bulk_pdu_laws, pdu_laws};
 
 use crate::binding::VarBind;
-use asn1_rs::{
-    BerParser, BorrowedRow, Error, Fields, FieldsKind, HasKind, HasReader, LawfulStruct, OfRow,
-    ReadsFieldsByBer, ReadsRow, SerializeResult, StructReader, struct_by_ber,
+use asn1_rs::author::{
+    BorrowedRow, Fields, FieldsKind, HasKind, HasReader, LawfulStruct, OfRow, ReadsFieldsByBer,
+    ReadsRow, StructReader, struct_by_ber,
 };
+use asn1_rs::{BerParser, Error, SerializeResult};
 use std::alloc::Global;
 
 /// A request or an answer. The numbers of the status stand in RFC 3416.

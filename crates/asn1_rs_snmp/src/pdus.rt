@@ -1,20 +1,17 @@
 //! What messages hold (RFC 3416, 3).
 ghost use Rattle.std.specs.Prelude.{◌≡◌};
-ghost use Rattle.asn1_headers.specs.Class.{class_number};
-ghost use Rattle.asn1_rs.specs.Any.{parts_of};
-ghost use Rattle.asn1_rs.specs.Choices.{has_a_tag, has_a_class};
-ghost use Rattle.asn1_rs.specs.Structs.{is_one_of};
-ghost use Rattle.asn1_rs.specs.Choices.Data.{ChecksOf, choice_type, numbers_of_choice, choice_numbers};
+ghost use Rattle.asn1_rs.specs.Prelude.{ChecksOf, choice_numbers, choice_type, class_number, has_a_class, has_a_tag};
+ghost use Rattle.asn1_rs.specs.Prelude.{is_one_of, numbers_of_choice, parts_of};
 ghost use Rattle.asn1_rs_snmp.specs.Pdus.{in_pdus_arms, pdus_laws};
 ghost use Rattle.asn1_rs_snmp.specs.declared.pdus.Pdus.TheVariants as pdus;
 
 use crate::notices::NoticePdus;
 use crate::requests::RequestPdus;
-use asn1_rs::{
-    Any, ArmNumbers, ChecksChoice, ChoiceKind, ChoiceReader, Class, DynTagged, Error, HasKind,
-    HasReader, LawfulChoice, LawfulType, Never, OfArms, ReadsChoiceByBer, Tag, ToldByNumber,
-    UsesArm, choice_of_element,
+use asn1_rs::author::{
+    ArmNumbers, ChecksChoice, ChoiceKind, ChoiceReader, HasKind, HasReader, LawfulChoice,
+    LawfulType, Never, OfArms, ReadsChoiceByBer, ToldByNumber, UsesArm, choice_of_element,
 };
+use asn1_rs::{Any, Class, DynTagged, Error, Tag};
 use asn1_rs_choices::{OrChoice, TellsArms, ToldChoice, check_arms};
 use std::alloc::Global;
 

@@ -1,20 +1,17 @@
 //! What is asked of an agent (RFC 3416, 3).
 ghost use Rattle.std.specs.Prelude.{◌≡◌};
-ghost use Rattle.asn1_headers.specs.Class.{class_number};
-ghost use Rattle.asn1_rs.specs.Any.{parts_of};
-ghost use Rattle.asn1_rs.specs.Choices.{has_a_tag, has_a_class};
-ghost use Rattle.asn1_rs.specs.Structs.{is_one_of};
-ghost use Rattle.asn1_rs.specs.Choices.Data.{ChecksOf, numbers_of_choice, choice_numbers};
+ghost use Rattle.asn1_rs.specs.Prelude.{ChecksOf, choice_numbers, class_number, has_a_class, has_a_tag, is_one_of};
+ghost use Rattle.asn1_rs.specs.Prelude.{numbers_of_choice, parts_of};
 ghost use Rattle.asn1_rs_choices.specs.Parts.Data.{arm_of_choice};
 ghost use Rattle.asn1_rs_snmp.specs.Pdus.{in_request_arms, request_laws};
 ghost use Rattle.asn1_rs_snmp.specs.declared.requests.RequestPdus.TheVariants as requests;
 
 use crate::pdu::{BulkPdu, Pdu};
-use asn1_rs::{
-    Any, ArmNumbers, ChecksChoice, ChoiceKind, ChoiceReader, Class, DynTagged, Error, HasKind,
-    HasReader, LawfulChoice, Never, OfArms, Or, OrTagged, ReadsChoiceByBer, Tag, TaggedImplicit,
-    ToldByNumber, UsesArm, choice_of_element,
+use asn1_rs::author::{
+    ArmNumbers, ChecksChoice, ChoiceKind, ChoiceReader, HasKind, HasReader, LawfulChoice, Never,
+    OfArms, Or, OrTagged, ReadsChoiceByBer, ToldByNumber, UsesArm, choice_of_element,
 };
+use asn1_rs::{Any, Class, DynTagged, Error, Tag, TaggedImplicit};
 use asn1_rs_choices::{TellsArms, ToldChoice, check_arms};
 use std::alloc::Global;
 

@@ -1,21 +1,18 @@
 //! Values of variables (RFC 3416, 3).
-ghost use Rattle.std.proofs.Common.{refl};
+ghost use Rattle.asn1_rs.specs.Prelude.{ChecksOf, choice_numbers, choice_of, choice_type, class_number, has_a_class};
+ghost use Rattle.asn1_rs.specs.Prelude.{has_a_tag, is_one_of, numbers_of_choice, parts_of, refl};
 ghost use Rattle.std.specs.Prelude.{◌≡◌};
-ghost use Rattle.asn1_headers.specs.Class.{class_number};
-ghost use Rattle.asn1_rs.specs.Any.{parts_of};
-ghost use Rattle.asn1_rs.specs.Choices.{has_a_tag, has_a_class};
-ghost use Rattle.asn1_rs.specs.Structs.{is_one_of};
-ghost use Rattle.asn1_rs.specs.Choices.Data.{choice_of, ChecksOf, choice_type, numbers_of_choice, choice_numbers};
 ghost use Rattle.asn1_rs.specs.declared.choices.arms.Or.TheVariants as arm;
 ghost use Rattle.asn1_rs_choices.specs.declared.arms.OrChoice.TheVariants as part;
 ghost use Rattle.asn1_rs_snmp.specs.declared.value.BindingValue.TheVariants as values;
 
 use crate::object::ObjectSyntax;
-use asn1_rs::{
-    Any, ArmNumbers, Arms, ChecksChoice, ChoiceKind, ChoiceReader, Class, DynTagged, Error,
-    HasKind, HasReader, LawfulChoice, LawfulType, Never, Null, OfArms, Or, OrTagged, OrUniversal,
-    ReadsChoiceByBer, Tag, TaggedImplicit, ToldByNumber, UsesArm, choice_of_element,
+use asn1_rs::author::{
+    ArmNumbers, Arms, ChecksChoice, ChoiceKind, ChoiceReader, HasKind, HasReader, LawfulChoice,
+    LawfulType, Never, OfArms, Or, OrTagged, OrUniversal, ReadsChoiceByBer, ToldByNumber, UsesArm,
+    choice_of_element,
 };
+use asn1_rs::{Any, Class, DynTagged, Error, Null, Tag, TaggedImplicit};
 use asn1_rs_choices::{OrChoice, TellsArms, ToldChoice, check_arms};
 use std::alloc::Global;
 

@@ -1,7 +1,6 @@
 //! Values that borrow the octets that they are read from, and last as long as those.
 ghost use Rattle.std.specs.Prelude.{◌⊎◌, IfOk, IfErr};
-ghost use Rattle.x690.specs.Identifiers.{IsCutIdentifier};
-ghost use Rattle.asn1_headers.specs.Answers.{seen, Exactly};
+ghost use Rattle.asn1_rs.specs.Prelude.{Exactly, IsCutIdentifier, seen};
 ghost use Rattle.asn1_rs.specs.OctetString.{slice_leaf, octet_string_leaf, octets_of};
 ghost use Rattle.asn1_rs.specs.BitString.{bit_string_leaf, bits_in};
 ghost use Rattle.asn1_rs.specs.Integer.Octets.{any_integer_leaf, integer_octets};
@@ -12,9 +11,10 @@ ghost use Rattle.asn1_rs_uses.specs.Borrowed.{LeafByDer, BeginsWithContents, utf
 ghost use Rattle.asn1_rs_uses.specs.Borrowed.{RefusesElement, HasNoText};
 ghost use Rattle.asn1_rs_uses.specs.Numbers.{NoMemory};
 
+use asn1_rs::laws::any_is_the_element;
 use asn1_rs::{
     Any, BitString, Error, FromDer, Integer, OctetString, ParseResult, Sequence, Utf8String,
-    any_is_the_element, read_ber, read_der,
+    read_ber, read_der,
 };
 use std::alloc::Global;
 

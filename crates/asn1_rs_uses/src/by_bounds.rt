@@ -2,9 +2,8 @@
 ghost use Rattle.std.specs.Prelude.{◌≡◌, List, length, IfOk};
 ghost use Rattle.std.specs.Iterator.{IsFinite};
 ghost use Rattle.std.specs.List.{All, flat_map};
-ghost use Rattle.asn1_headers.specs.Answers.{seen};
+ghost use Rattle.asn1_rs.specs.Prelude.{seen, whole_octets};
 ghost use Rattle.asn1_rs.specs.Lists.{GivesItems};
-ghost use Rattle.asn1_rs.specs.ToDer.{whole_octets};
 
 use asn1_rs::{Error, FromBer, ParseResult, ToDer};
 use std::alloc::Global;

@@ -1,15 +1,16 @@
 //! A lawful type of a caller's that borrows its contents octets.
 ghost use Rattle.std.specs.Prelude.{◌≡◌};
-ghost use Rattle.asn1_rs.specs.Any.{parts_of};
+ghost use Rattle.asn1_rs.specs.Prelude.{parts_of};
 ghost use Rattle.asn1_rs.specs.Checks.{is_primitive};
 ghost use Rattle.asn1_rs.specs.LeafReading.{leaf_reading};
 ghost use Rattle.asn1_rs.specs.Laws.Leaf.{leaf_exact, leaf_written};
 ghost use Rattle.asn1_rs_uses.specs.Fingerprint.{fingerprint_leaf, fingerprint_lawful};
 
-use asn1_rs::{
-    Any, ConvertsLeaf, DerElement, ElementKind, Error, HasKind, LeafType, Tag, TagNumber, Tagged,
-    WritesOctets, octets_in_hand,
+use asn1_rs::author::{
+    ConvertsLeaf, DerElement, ElementKind, HasKind, LeafType, TagNumber, WritesOctets,
 };
+use asn1_rs::laws::octets_in_hand;
+use asn1_rs::{Any, Error, Tag, Tagged};
 use std::alloc::Global;
 
 /// The fingerprint of a key, an octet string.

@@ -1,14 +1,14 @@
 //! A lawful type of a caller's under an implicit tag over an explicit one, which claims its laws itself.
 ghost use Rattle.std.specs.Prelude.{pos};
-ghost use Rattle.x690.specs.Identifiers.{IsCutIdentifier};
-ghost use Rattle.asn1_headers.specs.Answers.{Exactly, seen};
+ghost use Rattle.asn1_rs.specs.Prelude.{Exactly, IsCutIdentifier, seen};
 ghost use Rattle.asn1_rs_uses.specs.Handles.{HandleByDer, HandleTakes, HandleCheckGives, handle_element, handle_lawful};
 ghost use Rattle.asn1_rs_uses.specs.Handles.{handle_checked, handle_converts};
 ghost use Rattle.asn1_rs_uses.specs.Numbers.{NoMemory};
 
+use asn1_rs::author::{ElementKind, HasKind, LawfulCheckBy, LawfulConversion, LawfulElement};
 use asn1_rs::{
-    Any, CheckDerConstraints, DerAutoDerive, ElementKind, Error, FromAny, HasKind, LawfulCheckBy,
-    LawfulConversion, LawfulElement, ParseResult, TaggedExplicit, TaggedImplicit, read_der,
+    Any, CheckDerConstraints, DerAutoDerive, Error, FromAny, ParseResult, TaggedExplicit,
+    TaggedImplicit, read_der,
 };
 use std::alloc::Global;
 

@@ -1,16 +1,16 @@
 //! Object identifiers: read, made of arcs, compared.
 ghost use Rattle.std.specs.Prelude.{◌≡◌, ◌↔◌, ℕ, List, true, false, Err, MatchResult};
 ghost use Rattle.x690.specs.Arcs.{AreAbsoluteArcs};
-ghost use Rattle.x690.specs.Identifiers.{IsCutIdentifier};
+ghost use Rattle.asn1_rs.specs.Prelude.{Exactly, IsCutIdentifier, seen};
 ghost use Rattle.x690.specs.Octets.{BeginsWith};
-ghost use Rattle.asn1_headers.specs.Answers.{seen, Exactly};
 ghost use Rattle.asn1_rs.specs.declared.asn1_types.oid.Oid.{Oid};
 ghost use Rattle.asn1_rs.specs.Oid.{oid_octets, oid_value};
 ghost use Rattle.asn1_rs.specs.Oid.Making.{OidMade, arcs_back};
 ghost use Rattle.asn1_rs_uses.specs.Identifiers.{OidByDer, rsa_octets};
 ghost use Rattle.asn1_rs_uses.specs.Numbers.{NoMemory};
 
-use asn1_rs::{Error, Oid, OidParseError, ParseResult, equal_items_are_hashed_alike, read_der};
+use asn1_rs::laws::equal_items_are_hashed_alike;
+use asn1_rs::{Error, Oid, OidParseError, ParseResult, read_der};
 use std::alloc::Global;
 use std::borrow::CowSlice;
 use std::hash::Hash;

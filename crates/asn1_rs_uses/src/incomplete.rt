@@ -1,15 +1,15 @@
 //! Headers and elements that may be cut.
 ghost use Rattle.std.specs.Prelude.{◌≡◌, ◌<◌, ◌++◌, ℕ, List, length, IfOk};
-ghost use Rattle.x690.specs.Identifiers.{Identifier, IsIdentifier, IsCutIdentifier};
+ghost use Rattle.asn1_rs.specs.Prelude.{IsCutIdentifier, seen};
+ghost use Rattle.x690.specs.Identifiers.{Identifier, IsIdentifier};
 ghost use Rattle.x690.specs.Lengths.{LengthForm};
 ghost use Rattle.x690.specs.Rules.{ber_rule};
 ghost use Rattle.x690.specs.Elements.{Parts, IsHeader, IsDerElement};
-ghost use Rattle.asn1_headers.specs.Answers.{seen, RefusedAsBeginning};
+ghost use Rattle.asn1_headers.specs.Answers.{RefusedAsBeginning};
 ghost use Rattle.asn1_headers.specs.Header.{KeepsLent};
 
-use asn1_rs::{
-    Any, Error, FromBer, FromDer, Header, ParseResult, any_is_the_element, beginnings_are_refused,
-};
+use asn1_rs::laws::{any_is_the_element, beginnings_are_refused};
+use asn1_rs::{Any, Error, FromBer, FromDer, Header, ParseResult};
 use std::alloc::Global;
 
 /// The element at the front of the octets, by DER, and what follows it.

@@ -7,7 +7,9 @@ ghost use Rattle.asn1_rs.specs.Grammar.{BerWord};
 ghost use Rattle.asn1_rs_uses.specs.Items.{EndsBefore};
 ghost use Rattle.asn1_rs_uses.specs.Numbers.{NumberByDer};
 
-use asn1_rs::{Any, BerParser, DerParser, Error, ReadsWords, SequenceIterator, walks_take_words};
+use asn1_rs::author::ReadsWords;
+use asn1_rs::laws::walks_take_words;
+use asn1_rs::{Any, BerParser, DerParser, Error, SequenceIterator};
 use std::alloc::Global;
 
 /// The items in contents octets, in their order, by the reader `F`.

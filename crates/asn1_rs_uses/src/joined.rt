@@ -1,17 +1,14 @@
 //! Items of sequences and sets, as the words that contents octets are joined of.
 ghost use Rattle.std.specs.Prelude.{◌≡◌, ◌≢◌, ◌⊎◌, ℤ, List, map, pos, IfOk, IfErr};
 ghost use Rattle.x690.specs.Joined.{IsJoined};
-ghost use Rattle.asn1_headers.specs.Answers.{seen};
+ghost use Rattle.asn1_rs.specs.Prelude.{items_of, seen};
 ghost use Rattle.asn1_headers.specs.declared.error.Error.TheVariants as errors;
 ghost use Rattle.asn1_rs.specs.Lists.{HasNoJoining};
-ghost use Rattle.asn1_rs.specs.Set.{items_of};
 ghost use Rattle.asn1_rs_uses.specs.Items.{EndsBefore, BeginsWithNumbers, RefusesNumbers};
 ghost use Rattle.asn1_rs_uses.specs.Numbers.{NumberByDer};
 
-use asn1_rs::{
-    DerParser, Error, FromDer, ParseResult, Sequence, SequenceIterator, SetOf,
-    items_are_joined_words, lists_are_joined_words, walks_take_words,
-};
+use asn1_rs::laws::{items_are_joined_words, lists_are_joined_words, walks_take_words};
+use asn1_rs::{DerParser, Error, FromDer, ParseResult, Sequence, SequenceIterator, SetOf};
 use std::alloc::Global;
 use std::borrow::CowSlice;
 

@@ -1,17 +1,17 @@
 //! Borrowed octet strings under tags, counted and written. Some are optional, and some stand in a list. One has its
 //! header in hand, and one list is held by a type of a caller's.
 ghost use Rattle.std.specs.Prelude.{◌≡◌, ◌+◌, false, true, length, IfErr, MatchResult};
-ghost use Rattle.asn1_headers.specs.Writer.{Wrote, MayRefuse, IsMemoryOrLength};
-ghost use Rattle.asn1_headers.specs.Prepended.{Prepended};
+ghost use Rattle.asn1_rs.specs.Prelude.{IsMemoryOrLength, MayRefuse, Prepended, whole_octets, Wrote};
 ghost use Rattle.asn1_headers.specs.Header.{is_constructed_of};
 ghost use Rattle.asn1_rs_uses.specs.Labels.{label_octets, labels_octets, headed_octets};
 ghost use Rattle.asn1_rs_uses.specs.Labels.{AreEachCall, AreRefused};
-ghost use Rattle.asn1_rs.specs.ToDer.{MayRefuseCount, whole_octets};
+ghost use Rattle.asn1_rs.specs.ToDer.{MayRefuseCount};
 
+use asn1_rs::author::{HasKind, HolderKind, Holds};
+use asn1_rs::laws::{AlwaysDer, LawfulItem, LawfulWrite, counts_are_of_the_strict_encoding};
 use asn1_rs::{
-    AlwaysDer, DerBuffer, DerWrite, Error, Explicit, HasKind, HolderKind, Holds, Implicit,
-    LawfulItem, LawfulWrite, OctetString, SerializeResult, TaggedExplicit, TaggedParser,
-    TaggedValue, ToDer, counts_are_of_the_strict_encoding, strict_vec, write_strict,
+    DerBuffer, DerWrite, Error, Explicit, Implicit, OctetString, SerializeResult, TaggedExplicit,
+    TaggedParser, TaggedValue, ToDer, strict_vec, write_strict,
 };
 use std::alloc::Global;
 

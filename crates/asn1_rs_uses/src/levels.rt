@@ -1,9 +1,7 @@
 //! A lawful type of a caller's at an error type of its own, under a tag that its reader answers.
 ghost use Rattle.std.specs.Prelude.{◌≡◌, List, ℕ, Result, pos, false};
-ghost use Rattle.x690.specs.Octets.{IsOctets};
-ghost use Rattle.x690.specs.Identifiers.{IsCutIdentifier};
+ghost use Rattle.asn1_rs.specs.Prelude.{Exactly, IsCutIdentifier, IsOctets, TellsMemory};
 ghost use Rattle.asn1_headers.specs.declared.error.Err.{Err as Refusal};
-ghost use Rattle.asn1_headers.specs.Answers.{Exactly, TellsMemory};
 ghost use Rattle.asn1_headers.specs.Header.{identifier_of};
 ghost use Rattle.asn1_rs.specs.declared.asn1_types.tagged.parser.TaggedParser.{TaggedParser};
 ghost use Rattle.asn1_rs.specs.declared.asn1_types.tagged.Explicit.{Explicit};
@@ -19,9 +17,10 @@ ghost use Rattle.asn1_rs_uses.specs.declared.levels.Level.{Level};
 ghost use Rattle.asn1_rs_uses.specs.declared.levels.LevelError.{LevelError};
 ghost use Rattle.asn1_rs_uses.specs.declared.levels.LevelError.TheVariants.{Octets};
 
+use asn1_rs::author::{ElementKind, HasKind, LawfulBodyBy, LawfulCheckBy, LawfulElement};
+use asn1_rs::laws::reader_is_exact_by_der;
 use asn1_rs::{
-    Any, CheckDerConstraints, DerAutoDerive, ElementKind, Error, Explicit, FromAny, HasKind,
-    LawfulBodyBy, LawfulCheckBy, LawfulElement, Tag, Tagged, TaggedParser, reader_is_exact_by_der,
+    Any, CheckDerConstraints, DerAutoDerive, Error, Explicit, FromAny, Tag, Tagged, TaggedParser,
 };
 use std::alloc::Global;
 

@@ -1,6 +1,6 @@
 //! A time that is made by hand: the first second of a day, counted and written.
 ghost use Rattle.std.specs.Prelude.{◌≡◌, true, false, length, MatchResult, IsErrAnd};
-ghost use Rattle.asn1_headers.specs.Writer.{IsMemoryOrLength};
+ghost use Rattle.asn1_rs.specs.Prelude.{IsMemoryOrLength};
 ghost use Rattle.asn1_rs.specs.ToDer.{MayRefuseCount};
 ghost use Rattle.asn1_rs.specs.Times.{generalized_time_refused, moment_of};
 ghost use Rattle.asn1_rs_uses.specs.Midnights.{TellsInvalidTime, midnight, midnight_octets};

@@ -1,20 +1,18 @@
 //! Numbers by BER and by DER, with the theorems in words of numbers.
 ghost use Rattle.std.specs.Prelude.{◌≡◌, ◌≢◌, ◌<◌, ◌≤◌, ◌^◌, ◌++◌, ◌↔◌, ◌⊎◌, ℕ, ℤ, List, length, pos, IfOk, IfErr};
 ghost use Rattle.std.specs.Prelude.{IsTrue, MatchResult};
-ghost use Rattle.x690.specs.Identifiers.{Identifier, IsCutIdentifier};
-ghost use Rattle.asn1_headers.specs.Answers.{seen, Exactly, RefusedBeforeEnd};
-ghost use Rattle.asn1_headers.specs.Ber.{EndsWithin};
-ghost use Rattle.asn1_headers.specs.Error.{HeldIn};
+ghost use Rattle.asn1_rs.specs.Prelude.{EndsWithin, Exactly, HeldIn, IsCutIdentifier, IsMemoryOrLength, seen};
+ghost use Rattle.x690.specs.Identifiers.{Identifier};
+ghost use Rattle.asn1_headers.specs.Answers.{RefusedBeforeEnd};
 ghost use Rattle.asn1_headers.specs.declared.error.Error.TheVariants as errors;
 ghost use Rattle.asn1_rs.specs.Integer.{IntegerForm, IsUnsigned};
-ghost use Rattle.asn1_headers.specs.Writer.{IsMemoryOrLength};
 ghost use Rattle.asn1_rs_uses.specs.Numbers.{IsStrictNumber, NoMemory, NumberByBer, NumberByDer};
 
-use asn1_rs::{
-    Error, FromBer, FromDer, ParseResult, SerializeResult, ToDer,
+use asn1_rs::laws::{
     counts_are_of_the_strict_encoding, reader_is_exact_by_ber, reader_is_exact_by_der,
-    strict_fronts_are_written_again, strict_vec, words_and_values_are_unique,
+    strict_fronts_are_written_again, words_and_values_are_unique,
 };
+use asn1_rs::{Error, FromBer, FromDer, ParseResult, SerializeResult, ToDer, strict_vec};
 use std::alloc::Global;
 
 /// The number at the front of the octets, by DER, and what follows it.

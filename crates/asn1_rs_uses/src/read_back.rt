@@ -2,9 +2,10 @@
 ghost use Rattle.std.specs.Prelude.{◌≡◌, ◌⊎◌, ◌<◌, ◌^◌, length, MatchResult};
 ghost use Rattle.asn1_headers.specs.declared.error.Error.TheVariants as errors;
 ghost use Rattle.asn1_headers.specs.declared.error.SerializeError.TheVariants as serialize_errors;
-ghost use Rattle.asn1_rs.specs.ToDer.{whole_octets};
+ghost use Rattle.asn1_rs.specs.Prelude.{whole_octets};
 
-use asn1_rs::{Error, LawfulDer, LawfulWrite, SerializeResult, read_der, strict_vec};
+use asn1_rs::laws::{LawfulDer, LawfulWrite};
+use asn1_rs::{Error, SerializeResult, read_der, strict_vec};
 use std::alloc::Global;
 
 /// Writes a value, reads what was written by DER, and answers what was read.

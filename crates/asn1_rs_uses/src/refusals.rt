@@ -6,16 +6,17 @@ ghost use Rattle.asn1_headers.specs.declared.length.Length.TheVariants as forms;
 ghost use Rattle.asn1_headers.specs.declared.error.Error.TheVariants as errors;
 ghost use Rattle.asn1_headers.specs.declared.error.SerializeError.TheVariants as serialize_errors;
 ghost use Rattle.asn1_headers.specs.Header.{HasParts};
-ghost use Rattle.asn1_rs.specs.Set.{items_of};
-ghost use Rattle.asn1_headers.specs.Writer.{GrewByABeginning, MayRefuse};
+ghost use Rattle.asn1_rs.specs.Prelude.{items_of, MayRefuse};
+ghost use Rattle.asn1_headers.specs.Writer.{GrewByABeginning};
 ghost use Rattle.asn1_rs.specs.ToDer.{RefusedAtOnce};
 ghost use Rattle.asn1_rs_uses.specs.Refusals.{AsAnyWriting, TellsOfNoClass, SomeInNoClass, octets_in_classes};
 ghost use Rattle.asn1_rs_uses.specs.Refusals.{IsEmptyPart, TellsOfEmptyPart, WrittenEmptyPart, IsMemoryOrLength};
 ghost use Rattle.asn1_rs_uses.specs.Refusals.{SomeEmpty, in_class_writing, part_writing};
 
+use asn1_rs::author::put_all;
 use asn1_rs::{
     Any, Class, DerWrite, DynTagged, Error, Header, Length, SerializeError, SerializeResult, SetOf,
-    Tag, ToDer, put_all,
+    Tag, ToDer,
 };
 use std::alloc::Global;
 use std::collections::BTreeSet;

@@ -1,11 +1,9 @@
 //! A list of a caller's: it is read as the library's lists are.
 ghost use Rattle.std.specs.Prelude.{◌≡◌, MatchResult};
-ghost use Rattle.asn1_headers.specs.Answers.{seen};
+ghost use Rattle.asn1_rs.specs.Prelude.{seen};
 
-use asn1_rs::{
-    AnyForm, Error, FromDer, FromItems, HasKind, HasReader, ListReader, ParseResult, SequenceKind,
-    Tag, Tagged,
-};
+use asn1_rs::author::{AnyForm, FromItems, HasKind, HasReader, ListReader, SequenceKind};
+use asn1_rs::{Error, FromDer, ParseResult, Tag, Tagged};
 use std::alloc::{AllocError, Global};
 
 /// The cells of a table's row, from left to right.

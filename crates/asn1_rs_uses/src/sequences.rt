@@ -1,11 +1,10 @@
 //! Sequences of integers.
 ghost use Rattle.std.specs.Prelude.{◌≡◌, ℤ, List, map, pos, MatchResult};
-ghost use Rattle.x690.specs.Identifiers.{IsCutIdentifier};
-ghost use Rattle.asn1_headers.specs.Answers.{seen, Exactly};
-ghost use Rattle.asn1_headers.specs.Writer.{IsMemoryOrLength};
+ghost use Rattle.asn1_rs.specs.Prelude.{Exactly, IsCutIdentifier, IsMemoryOrLength, seen};
 ghost use Rattle.asn1_rs_uses.specs.Sequences.{ShortNumbers, WantsMemory, numbers_octets};
 
-use asn1_rs::{AlwaysDer, Error, ParseResult, SerializeResult, read_der, strict_vec};
+use asn1_rs::laws::AlwaysDer;
+use asn1_rs::{Error, ParseResult, SerializeResult, read_der, strict_vec};
 use std::alloc::Global;
 
 /// The numbers of the sequence at the front of the octets, by DER, and what follows it.

@@ -10,10 +10,10 @@ ghost use Rattle.asn1_rs.specs.Laws.Integer.Machine.{machine_exact, unsigned_law
 ghost use Rattle.asn1_rs.specs.Laws.Kinds.{holding_written};
 ghost use Rattle.asn1_rs.specs.Laws.Leaf.{holding_exact};
 
-use asn1_rs::{
-    Any, ConvertsLeaf, DerBuffer, DerElement, DerWrite, ElementKind, Error, HasKind, LeafType,
-    SerializeResult, TagNumber, WritesElement,
+use asn1_rs::author::{
+    ConvertsLeaf, DerElement, ElementKind, HasKind, LeafType, TagNumber, WritesElement,
 };
+use asn1_rs::{Any, DerBuffer, DerWrite, Error, SerializeResult};
 use std::alloc::Global;
 
 /// The serial number of a certificate, of at most 64 bits.

@@ -1,18 +1,14 @@
 //! Sets of small numbers, with the theorems in words of sets.
 ghost use Rattle.std.specs.Prelude.{◌≡◌, ◌↔◌, ◌⊎◌, List, map, pos, IfOk, IfErr, IsTrue, MatchResult};
 ghost use Rattle.x690.specs.Collections.{multiset, value_set};
-ghost use Rattle.x690.specs.Identifiers.{IsCutIdentifier};
-ghost use Rattle.asn1_headers.specs.Answers.{seen, Exactly};
-ghost use Rattle.asn1_headers.specs.Writer.{IsMemoryOrLength};
-ghost use Rattle.asn1_rs.specs.Set.{items_of, set_of};
+ghost use Rattle.asn1_rs.specs.Prelude.{Exactly, IsCutIdentifier, IsMemoryOrLength, items_of, seen};
+ghost use Rattle.asn1_rs.specs.Set.{set_of};
 ghost use Rattle.asn1_rs_uses.specs.Sequences.{WantsMemory};
 ghost use Rattle.asn1_rs_uses.specs.Sets.{CountedNumbers, DistinctNumbers, DistinctSigned, set_octets};
 ghost use Rattle.asn1_rs_uses.specs.Sets.{signed_set_octets};
 
-use asn1_rs::{
-    AlwaysDer, Error, ParseResult, SerializeResult, SetOf, members_in_hand, read_der, strict_vec,
-    words_and_values_are_unique,
-};
+use asn1_rs::laws::{AlwaysDer, members_in_hand, words_and_values_are_unique};
+use asn1_rs::{Error, ParseResult, SerializeResult, SetOf, read_der, strict_vec};
 use std::alloc::Global;
 use std::collections::{BTreeSet, HashSet};
 

@@ -1,8 +1,7 @@
 //! Messages in a buffer that a stream fills.
 ghost use Rattle.std.specs.Prelude.{◌≡◌, ◌⊎◌, ◌≤◌, ◌<◌, length, true, false, IfOk, IfErr, Ok};
 ghost use Rattle.x690.specs.Elements.{IsDerElement};
-ghost use Rattle.x690.specs.Identifiers.{IsCutIdentifier};
-ghost use Rattle.asn1_headers.specs.Answers.{seen};
+ghost use Rattle.asn1_rs.specs.Prelude.{IsCutIdentifier, seen};
 ghost use Rattle.asn1_headers.specs.Error.{IsCut};
 ghost use Rattle.asn1_headers.specs.declared.error.Err.TheVariants.{Error as refused};
 ghost use Rattle.asn1_headers.specs.declared.error.Error.TheVariants as errors;
@@ -10,10 +9,8 @@ ghost use Rattle.asn1_rs.specs.Any.{RefusalLasts};
 ghost use Rattle.asn1_rs_uses.specs.Stream.{IsAwaited, NoElementBegins, AnElementBegins};
 ghost use Rattle.asn1_rs_uses.specs.Stream.{RefusesMessage};
 
-use asn1_rs::{
-    Any, Err, Error, FromDer, Needed, ParseResult, answers_last, any_is_the_element,
-    beginnings_are_incomplete,
-};
+use asn1_rs::laws::{answers_last, any_is_the_element, beginnings_are_incomplete};
+use asn1_rs::{Any, Err, Error, FromDer, Needed, ParseResult};
 use std::alloc::Global;
 
 /// How many octets an identifier has at most: the first one, and five digits of a tag number below 2^32.

@@ -1,15 +1,16 @@
 //! Borrowed octets under a tag whose number is told at run time. They are read where they are optional, and by the
 //! readers of one tag number.
 ghost use Rattle.std.specs.Prelude.{◌≡◌, IfOk, IfErr, IsOk, MatchOption};
-ghost use Rattle.asn1_headers.specs.Answers.{seen};
+ghost use Rattle.asn1_rs.specs.Prelude.{seen};
 ghost use Rattle.asn1_rs.specs.OctetString.{octets_of};
 ghost use Rattle.asn1_rs_uses.specs.TaggedOctets.{BeginsUnderTag, BeginsUnderNumber, BeginsWithContentsUnder};
 ghost use Rattle.asn1_rs_uses.specs.TaggedOctets.{RefusesOctetsUnder, RefusesStringUnder};
 
+use asn1_rs::laws::reader_is_exact_by_der;
 use asn1_rs::{
     Error, Explicit, Header, Implicit, OctetString, OptTaggedParser, ParseResult, Tag,
     TaggedParser, parse_der_tagged_explicit, parse_der_tagged_explicit_g,
-    parse_der_tagged_implicit, parse_der_tagged_implicit_g, reader_is_exact_by_der,
+    parse_der_tagged_implicit, parse_der_tagged_implicit_g,
 };
 use std::alloc::Global;
 

@@ -1,15 +1,15 @@
 //! A lawful type of a caller's that holds a lawful value, tag and all, and hands every call on to it.
 ghost use Rattle.std.specs.Prelude.{◌≡◌, pos};
-ghost use Rattle.x690.specs.Identifiers.{IsCutIdentifier};
-ghost use Rattle.asn1_headers.specs.Answers.{Exactly, seen};
+ghost use Rattle.asn1_rs.specs.Prelude.{Exactly, IsCutIdentifier, seen};
 ghost use Rattle.asn1_rs.specs.Kinds.{HoldingGives, HoldingReads};
 ghost use Rattle.asn1_rs.specs.Laws.Kinds.{held_takes, held_reads, held_no_memory};
 ghost use Rattle.asn1_rs_uses.specs.Numbers.{NoMemory};
 ghost use Rattle.asn1_rs_uses.specs.Version.{VersionByDer};
 
+use asn1_rs::author::{HasKind, HolderKind, Holds, LawfulBodyBy};
+use asn1_rs::laws::{LawfulBody, LawfulCheck, LawfulDer, LawfulMember};
 use asn1_rs::{
-    Any, CheckDerConstraints, Error, FromAny, FromDer, HasKind, HolderKind, Holds, LawfulBody,
-    LawfulBodyBy, LawfulCheck, LawfulDer, LawfulMember, ParseResult, Tagged, TaggedExplicit,
+    Any, CheckDerConstraints, Error, FromAny, FromDer, ParseResult, Tagged, TaggedExplicit,
     read_der,
 };
 use std::alloc::Global;

@@ -11,8 +11,7 @@ ghost use Rattle.asn1vec_answers.specs.Memory.{AreAlike, AsksForNoneThatAllocate
 ghost use Rattle.asn1vec_answers.specs.Shown.{Gains, HeldEncoding, IsReadAnswer, in_order, list_text, option_text};
 ghost use Rattle.asn1vec_answers.specs.Meaning.{ReadsByEither, ReadsOptional};
 ghost use Rattle.asn1vec_answers.specs.Types.{IsTypeAnswer, meaning_of};
-ghost use Rattle.asn1_rs.specs.ToDer.{whole_allocates};
-ghost use Rattle.asn1_rs.specs.Grammar.Item.{ber_words};
+ghost use Rattle.asn1_rs.specs.Prelude.{ber_words, whole_allocates};
 
 use crate::holders::{
     push_btree_set_u8, push_explicit_0_u32, push_explicit_31_u8, push_hash_set_i8,
@@ -24,11 +23,12 @@ use crate::request::{Request, Rule, read_request};
 use crate::shown::{Encoded, push_by_ber, push_by_either, push_leaf, push_reading};
 use crate::text::push_str;
 use crate::types::{TypeName, type_named};
+use asn1_rs::laws::{LawfulBer, LawfulDer};
 use asn1_rs::{
     Any, BitString, BmpString, EmbeddedPdv, EndOfContent, Enumerated, Error, GeneralString,
-    GeneralizedTime, GraphicString, Ia5String, Integer, LawfulBer, LawfulDer, Null, NumericString,
-    ObjectDescriptor, OctetString, Oid, PrintableString, Sequence, Set, Tagged, TeletexString,
-    UniversalString, UtcTime, Utf8String, VideotexString, VisibleString,
+    GeneralizedTime, GraphicString, Ia5String, Integer, Null, NumericString, ObjectDescriptor,
+    OctetString, Oid, PrintableString, Sequence, Set, Tagged, TeletexString, UniversalString,
+    UtcTime, Utf8String, VideotexString, VisibleString,
 };
 use std::alloc::{AllocError, Global};
 

@@ -1,7 +1,6 @@
 //! How elements of any type are shown.
 ghost use Rattle.std.specs.Prelude.{◌≡◌, ◌<◌, ◌^◌, false, length};
-ghost use Rattle.x690.specs.Octets.{IsOctets};
-ghost use Rattle.asn1_headers.specs.Class.{class_number};
+ghost use Rattle.asn1_rs.specs.Prelude.{class_number, IsOctets};
 ghost use Rattle.asn1_rs.specs.Any.Value.{element_of, ElementForm};
 ghost use Rattle.asn1vec_answers.specs.Shown.{StrictEncoding, element_text, letter_of};
 

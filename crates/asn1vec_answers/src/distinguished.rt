@@ -2,7 +2,7 @@
 //! of its attributes, parted by `+`.
 ghost use Rattle.std.specs.Prelude.{◌≡◌, ◌++◌, OnOk};
 ghost use Rattle.asn1_rs.specs.Any.Value.{element_of};
-ghost use Rattle.asn1_rs.specs.ToDer.{whole_allocates, whole_octets, whole_refuses};
+ghost use Rattle.asn1_rs.specs.Prelude.{whole_allocates, whole_octets, whole_refuses};
 ghost use Rattle.asn1vec_answers.specs.Shown.{CameOfWriting, attribute_text, name_text, relative_name_text, value_text};
 ghost use Rattle.x509_name.specs.Attribute.{attribute_value};
 ghost use Rattle.x509_name.specs.Name.{rows_of};

@@ -7,16 +7,16 @@ ghost use Rattle.asn1_rs.specs.Integer.{IntegerForm};
 ghost use Rattle.std.specs.Iterator.{AlwaysYields, IsFinite};
 ghost use Rattle.std.specs.List.{join_by};
 ghost use Rattle.x690.specs.Collections.{AllDiffer, AnyList, multiset};
-ghost use Rattle.asn1_headers.specs.Writer.{MayRefuse};
+ghost use Rattle.asn1_rs.specs.Prelude.{items_of, MayRefuse, whole_allocates, whole_octets, whole_refuses};
 ghost use Rattle.asn1_rs.specs.Lists.{ListForm};
-ghost use Rattle.asn1_rs.specs.Set.{SetForm, ascends, is_other, items_of, members, set_of};
+ghost use Rattle.asn1_rs.specs.Set.{SetForm, ascends, is_other, members, set_of};
 ghost use Rattle.asn1_rs.specs.Sequence.SequenceOf.{sequence_items};
 ghost use Rattle.asn1vec_answers.specs.Shown.{AllowsOctets, AllowsRefusals, StrictEncodingIfAny, in_order, list_text};
-ghost use Rattle.asn1_rs.specs.ToDer.{whole_allocates, whole_octets, whole_refuses};
 
 use crate::shown::Encoded;
 use crate::text::push_str;
-use asn1_rs::{AlwaysDer, LawfulMember, LawfulWrite, SequenceOf, SetOf};
+use asn1_rs::laws::{AlwaysDer, LawfulMember, LawfulWrite};
+use asn1_rs::{SequenceOf, SetOf};
 use std::alloc::{AllocError, Global};
 use std::collections::{BTreeSet, HashSet};
 

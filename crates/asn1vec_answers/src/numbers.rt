@@ -4,11 +4,11 @@
 ghost use Rattle.std.specs.Prelude.{ℕ, List};
 ghost use Rattle.asn1_rs.specs.Grammar.Form.{IsStrict};
 ghost use Rattle.asn1vec_answers.specs.Shown.{StrictEncoding};
-ghost use Rattle.asn1_rs.specs.ToDer.{whole_allocates};
+ghost use Rattle.asn1_rs.specs.Prelude.{whole_allocates};
 
 use crate::shown::Encoded;
 use crate::text::push_number;
-use asn1_rs::LawfulWrite;
+use asn1_rs::laws::LawfulWrite;
 use itoa::Integer;
 use std::alloc::AllocError;
 

@@ -1,18 +1,15 @@
 //! Optional values: how they are read, and shown as `none`, or `some` and the value.
 ghost use Rattle.std.specs.Prelude.{length};
-ghost use Rattle.x690.specs.Identifiers.{IsCutIdentifier};
+ghost use Rattle.asn1_rs.specs.Prelude.{ber_words, EndsWithin, Exactly, IsCutIdentifier, MayRefuse, seen};
+ghost use Rattle.asn1_rs.specs.Prelude.{TellsMemory, whole_allocates, whole_octets, whole_refuses};
 ghost use Rattle.x690.specs.Rules.{ber_rule, der_rule};
-ghost use Rattle.asn1_headers.specs.Answers.{Exactly, TellsMemory, seen};
-ghost use Rattle.asn1_headers.specs.Ber.{EndsWithin};
-ghost use Rattle.asn1_headers.specs.Writer.{MayRefuse};
 ghost use Rattle.asn1_rs.specs.Optional.{IsLeftOut, OptionGives, option_writing};
 ghost use Rattle.asn1vec_answers.specs.Shown.{AllowsOctets, AllowsRefusals, HeldEncoding, option_text};
-ghost use Rattle.asn1_rs.specs.ToDer.{whole_allocates, whole_octets, whole_refuses};
-ghost use Rattle.asn1_rs.specs.Grammar.Item.{ber_words};
 
 use crate::shown::{Encoded, Shown, push_written};
 use crate::text::push_str;
-use asn1_rs::{Error, FromBer, FromDer, LawfulBer, LawfulDer, ParseResult, Tagged};
+use asn1_rs::laws::{LawfulBer, LawfulDer};
+use asn1_rs::{Error, FromBer, FromDer, ParseResult, Tagged};
 use std::alloc::{AllocError, Global};
 
 /// Reads an optional value by BER: where one is there, exactly.

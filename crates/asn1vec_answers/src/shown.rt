@@ -1,21 +1,20 @@
 //! How a reading is answered: the value, what follows it and its encoding, or the refusal.
 ghost use Rattle.std.specs.Prelude.{◌≡◌, ◌++◌, ℕ, List, Result, Ok, OnOk, length};
-ghost use Rattle.asn1_headers.specs.Answers.{seen};
-ghost use Rattle.asn1_headers.specs.declared.error.SerializeError.{SerializeError};
+ghost use Rattle.asn1_rs.specs.Prelude.{ber_words, MayRefuse, seen, SerializeError, whole_allocates, whole_octets};
+ghost use Rattle.asn1_rs.specs.Prelude.{whole_refuses};
 ghost use Rattle.asn1_headers.specs.Error.{tells_of_io};
-ghost use Rattle.asn1_headers.specs.Writer.{MayRefuse};
 ghost use Rattle.asn1vec_answers.specs.Meaning.{ReadsByEither};
 ghost use Rattle.asn1vec_answers.specs.Shown.{AllowsOctets, AllowsRefusals, CameOfWriting, Encoding, Gains, SaysAnswer};
 ghost use Rattle.asn1vec_answers.specs.Shown.{IsReadAnswer, ReadsByBer, ReadsByDer, SaysEncoding, SaysWriting};
-ghost use Rattle.asn1_rs.specs.ToDer.{whole_allocates, whole_octets, whole_refuses};
-ghost use Rattle.asn1_rs.specs.Grammar.Item.{ber_words};
 
 use crate::names::{push_refusal, push_write_refusal};
 use crate::request::Rule;
 use crate::text::{push_hexadecimal, push_str};
+use asn1_rs::author::ConvertsLeaf;
+use asn1_rs::laws::{Grammar, LawfulBer, LawfulDer, LawfulWrite};
 use asn1_rs::{
-    ConvertsLeaf, Error, FromBer, FromDer, Grammar, LawfulBer, LawfulDer, LawfulWrite, ParseResult,
-    SerializeError, SerializeResult, ToDer, Told, read_ber, read_der,
+    Error, FromBer, FromDer, ParseResult, SerializeError, SerializeResult, ToDer, Told, read_ber,
+    read_der,
 };
 use std::alloc::{AllocError, Global};
 use std::mem;

@@ -7,7 +7,7 @@ ghost use Rattle.asn1vec_answers.specs.Types.{leaf_octets};
 
 use crate::shown::Encoded;
 use crate::text::push_hexadecimal;
-use asn1_rs::{CharacterCode, CodedString, Repertoire, RestrictedString, StringKind};
+use asn1_rs::author::{CharacterCode, CodedString, Repertoire, RestrictedString, StringKind};
 use std::alloc::AllocError;
 
 impl<K: StringKind<Characters: Repertoire>> Encoded for RestrictedString<'_, K> {

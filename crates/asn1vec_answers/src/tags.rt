@@ -2,11 +2,12 @@
 ghost use Rattle.asn1_rs.specs.Tagged.Explicit.{ExplicitForm};
 ghost use Rattle.asn1_rs.specs.Tagged.Implicit.{ImplicitForm};
 ghost use Rattle.asn1vec_answers.specs.Shown.{StrictEncodingIfAny};
-ghost use Rattle.asn1_rs.specs.ToDer.{whole_allocates};
+ghost use Rattle.asn1_rs.specs.Prelude.{whole_allocates};
 
 use crate::lists::writing_is_strict;
 use crate::shown::Encoded;
-use asn1_rs::{AlwaysDer, Error, TaggedExplicit, TaggedImplicit, TakesClass};
+use asn1_rs::laws::{AlwaysDer, TakesClass};
+use asn1_rs::{Error, TaggedExplicit, TaggedImplicit};
 use std::alloc::AllocError;
 
 impl<T: Encoded + AlwaysDer, const TAG: u32> Encoded for TaggedExplicit<T, Error, TAG> {

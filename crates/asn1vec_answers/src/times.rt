@@ -8,7 +8,8 @@ ghost use Rattle.asn1vec_answers.specs.Types.{leaf_octets};
 
 use crate::shown::Encoded;
 use crate::text::push_displayed;
-use asn1_rs::{GeneralizedTime, LawfulElement, UtcTime};
+use asn1_rs::author::LawfulElement;
+use asn1_rs::{GeneralizedTime, UtcTime};
 use std::alloc::AllocError;
 
 impl Encoded for UtcTime {

@@ -9,7 +9,8 @@ ghost use Rattle.asn1vec_engine.specs.Outputs.{AllAlike, BeginsAnswer};
 ghost use Rattle.asn1vec_engine.specs.Engine.{AnswersTo, BeginsAnswersTo, Moves, Begins, TellsMark, last_line};
 ghost use Rattle.asn1vec_engine.specs.declared.engine.RunError.TheVariants.{OutOfMemory};
 
-use asn1_rs::{DerWrite, put_all};
+use asn1_rs::DerWrite;
+use asn1_rs::author::put_all;
 use asn1vec_answers::{LONGEST_LINE, answer_line, one_answer, split_once};
 use std::alloc::{AllocError, Global};
 use std::fmt;

@@ -9,10 +9,11 @@ ghost use Rattle.x509_name.specs.Laws.Reading.{attribute_exact, attribute_no_mem
 ghost use Rattle.x509_name.specs.Laws.Writing.{attribute_lawful_writing, attribute_number};
 
 use crate::header::{add_counts, element_len, prepend_header, put_header, sum_of_written};
+use asn1_rs::author::{ElementKind, HasKind, LawfulElement, TagNumber, TaggedAs, refusal_of_count};
+use asn1_rs::laws::{LawfulDer, LawfulItem, LawfulTagged, LawfulWrite};
 use asn1_rs::{
-    Any, DerBuffer, DerConstraint, DerWrite, ElementKind, Err, Error, FromDer, HasKind, LawfulDer,
-    LawfulElement, LawfulItem, LawfulTagged, LawfulWrite, Oid, ParseResult, SerializeResult, Tag,
-    TagNumber, TaggedAs, ToDer, refusal_of_count,
+    Any, DerBuffer, DerConstraint, DerWrite, Err, Error, FromDer, Oid, ParseResult,
+    SerializeResult, Tag, ToDer,
 };
 use std::alloc::Global;
 

@@ -2,8 +2,8 @@
 ghost use Rattle.std.specs.Prelude.{◌≡◌, ◌<◌, ◌++◌, ◌+◌, ℕ, List, true, false, length, IfOk, IfErr};
 ghost use Rattle.x690.specs.Strict.{header_octets};
 ghost use Rattle.asn1_headers.specs.Header.Writing.{strict_header};
-ghost use Rattle.asn1_headers.specs.Prepended.{Prepended};
-ghost use Rattle.asn1_headers.specs.Writer.{Wrote, MayRefuse, SumsWritten};
+ghost use Rattle.asn1_rs.specs.Prelude.{MayRefuse, Prepended, Wrote};
+ghost use Rattle.asn1_headers.specs.Writer.{SumsWritten};
 ghost use Rattle.asn1_rs.specs.ToDer.{MayRefuseCount, SumsCounts};
 
 use asn1_rs::{

@@ -3,12 +3,10 @@ ghost use Rattle.std.specs.Prelude.{◌≡◌, ◌<◌, ◌^◌, ◌++◌, ℕ, 
 ghost use Rattle.std.specs.Io.KnownBytes.{Appends};
 ghost use Rattle.std.specs.List.{All};
 ghost use Rattle.std.proofs.Common.{lit<};
-ghost use Rattle.x690.specs.Identifiers.{IsCutIdentifier};
+ghost use Rattle.asn1_rs.specs.Prelude.{Error, Exactly, IsCutIdentifier, IsMemoryOrLength, seen, SerializeError};
+ghost use Rattle.asn1_rs.specs.Prelude.{Wrote};
 ghost use Rattle.x690.specs.Collections.{Multiset};
-ghost use Rattle.asn1_headers.specs.Answers.{Exactly, ReadsBack, seen};
-ghost use Rattle.asn1_headers.specs.Writer.{IsMemoryOrLength, Wrote};
-ghost use Rattle.asn1_headers.specs.declared.error.Error.{Error};
-ghost use Rattle.asn1_headers.specs.declared.error.SerializeError.{SerializeError};
+ghost use Rattle.asn1_headers.specs.Answers.{ReadsBack};
 ghost use Rattle.asn1_headers.specs.declared.error.SerializeError.TheVariants as serialize_errors;
 ghost use Rattle.asn1_rs.specs.ToDer.{RefusedAtOnce, Refuses};
 ghost use Rattle.asn1_rs.specs.Laws.Lists.{takes_some};
@@ -22,10 +20,11 @@ ghost use Rattle.x509_name.specs.Name.{HoldsEmpty, StrictName, name_octets, name
 ghost use Rattle.x509_name.specs.RelativeName.{HasNoAttribute, IsSome, RefusedForNone, attributes};
 
 use crate::relative_name::RelativeDistinguishedName;
+use asn1_rs::author::{ElementKind, HasKind, LawfulElement, TagNumber, TaggedAs, refusal_of_count};
+use asn1_rs::laws::{LawfulDer, LawfulItem, LawfulTagged, LawfulWrite};
 use asn1_rs::{
-    DerBuffer, DerWrite, ElementKind, Error, FromDer, HasKind, LawfulDer, LawfulElement,
-    LawfulItem, LawfulTagged, LawfulWrite, ParseResult, SerializeResult, TagNumber, TaggedAs,
-    ToDer, read_der, refusal_of_count, strict_vec, write_strict,
+    DerBuffer, DerWrite, Error, FromDer, ParseResult, SerializeResult, ToDer, read_der, strict_vec,
+    write_strict,
 };
 use std::alloc::Global;
 

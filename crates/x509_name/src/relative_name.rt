@@ -2,10 +2,7 @@
 ghost use Rattle.std.specs.Prelude.{◌≡◌, ◌↔◌, ◌+◌, [], ◌∷◌, length, map, true, IsTrue, IfErr, IsErr};
 ghost use Rattle.std.specs.Prelude.{MatchOption, MatchResult};
 ghost use Rattle.std.proofs.Common.{lit<};
-ghost use Rattle.asn1_headers.specs.Prepended.{Prepended};
-ghost use Rattle.asn1_headers.specs.Writer.{Wrote, MayRefuse};
-ghost use Rattle.asn1_headers.specs.declared.error.Error.{Error};
-ghost use Rattle.asn1_headers.specs.declared.error.SerializeError.{SerializeError};
+ghost use Rattle.asn1_rs.specs.Prelude.{Error, MayRefuse, Prepended, SerializeError, Wrote};
 ghost use Rattle.asn1_rs.specs.ToDer.{RefusedAtOnce, Refuses};
 ghost use Rattle.asn1_rs.specs.Laws.Lists.{takes_some};
 ghost use Rattle.asn1_rs.specs.Set.{set_content};
@@ -19,10 +16,10 @@ ghost use Rattle.x509_name.specs.RelativeName.{relative_name_element, relative_n
 use crate::attribute::AttributeTypeAndValue;
 use crate::header::{element_len, prepend_header, put_header};
 use crate::set::{prepend_set, write_set};
+use asn1_rs::author::{ElementKind, HasKind, LawfulElement, TagNumber, TaggedAs, refusal_of_count};
+use asn1_rs::laws::{LawfulDer, LawfulItem, LawfulTagged, LawfulWrite};
 use asn1_rs::{
-    DerBuffer, DerWrite, ElementKind, Err, Error, FromDer, HasKind, LawfulDer, LawfulElement,
-    LawfulItem, LawfulTagged, LawfulWrite, ParseResult, SerializeResult, SetOf, Tag, TagNumber,
-    TaggedAs, ToDer, refusal_of_count,
+    DerBuffer, DerWrite, Err, Error, FromDer, ParseResult, SerializeResult, SetOf, Tag, ToDer,
 };
 use std::alloc::Global;
 

@@ -1,11 +1,10 @@
 //! Items that are written as a set of them.
 ghost use Rattle.std.specs.Prelude.{◌≡◌, ◌+◌, length, map, true, IfOk, IfErr};
 ghost use Rattle.std.specs.List.{All};
-ghost use Rattle.asn1_headers.specs.Prepended.{Prepended};
-ghost use Rattle.asn1_headers.specs.Writer.{Wrote, MayRefuse};
+ghost use Rattle.asn1_rs.specs.Prelude.{items_of, MayRefuse, Prepended, whole_octets, whole_refuses, Wrote};
 ghost use Rattle.asn1_headers.specs.declared.error.SerializeError.TheVariants as serialize_errors;
-ghost use Rattle.asn1_rs.specs.Set.{items_of, set_content};
-ghost use Rattle.asn1_rs.specs.ToDer.{HasNone, whole_octets, whole_refuses};
+ghost use Rattle.asn1_rs.specs.Set.{set_content};
+ghost use Rattle.asn1_rs.specs.ToDer.{HasNone};
 
 use asn1_rs::{DerBuffer, DerWrite, SerializeResult, SetOf, Tagged, ToDer};
 use std::alloc::Global;

@@ -2,6 +2,7 @@
 pub mod Fields
 pub mod Numbers
 pub mod Rows
+pub mod Puts
 pub mod Writing
 pub mod Structs
 pub mod Readers

@@ -32,3 +32,7 @@ numbered_of T = record { numbers = T.numbers; grammar = T.grammar }
 
 pub lawful_numbered : {S : Type 0} (T : LawfulTypeOf S) → T.sound ≡ true → IsLawfulNumbered (numbered_of T)
 lawful_numbered T s = record { lawful = T.lawful s; begins = T.begins }
+
+-- the value of an item is one of its grammar's
+abbrev pub HasItsValue : {S : Type 0} → ItemGrammar S → S → Type 0
+HasItsValue G x = G.IsValue (G.value x)

@@ -32,7 +32,7 @@ use asn1_headers::tag::Tag;
 // &T`.
 pub trait HasKind {
     /// The kind: [`ElementKind`] or [`HolderKind`]. Lists and sets have one of [`collections`], sequences of fields
-    /// that of [`fields`], choices [`ChoiceKind`](crate::ChoiceKind), values under a tag
+    /// that of [`fields`], choices [`ChoiceKind`](crate::author::ChoiceKind), values under a tag
     /// [`TagMark`](crate::asn1_types::tagged::TagMark).
     type Kind;
 }

@@ -46,9 +46,49 @@ ghost use Rattle.asn1_rs.specs.Laws.Readers.{ber_elements, passes_all, all_pass}
 ghost use Rattle.asn1_rs.specs.Any.Writing.{element_writing};
 ghost use Rattle.asn1_rs.specs.ToDer.{whole_allocates, whole_octets};
 
+pub use crate::asn1_types::any::texts::any_texts_have_one_refusal;
+pub use crate::asn1_types::boolean::truth_constants_are_octets;
+pub use crate::asn1_types::embedded_pdv::pdvs_have_one_refusal;
+pub use crate::asn1_types::integer::integers_have_one_refusal;
+pub use crate::asn1_types::lists::lists_are_joined_words;
+pub use crate::asn1_types::numbers_of_borrowed_types;
+pub use crate::asn1_types::oid::relative::identifiers_have_one_refusal;
+pub use crate::asn1_types::option::{
+    optional_elements_are_refused, options_are_left_out_by_ber, options_are_left_out_by_der,
+    options_are_read_back_by_ber, options_are_read_back_by_der, options_are_refused_by_ber,
+    options_are_refused_by_der,
+};
+pub use crate::asn1_types::sequence::iterator::{
+    indefinite_contents_are_walked, items_are_joined_words, walks_end, walks_take_words,
+};
+pub use crate::asn1_types::sequence::sequence_of::sequences_are_equal_in_order;
+pub use crate::asn1_types::set::set_of::sets_are_equal_in_order;
+pub use crate::asn1_types::strings::decoded::coded_strings_have_one_refusal;
+pub use crate::asn1_types::strings::in_place::strings_have_one_refusal;
+pub use crate::asn1_types::strings::kinds::{numbers_of_coded_strings, numbers_of_strings};
+pub use crate::asn1_types::tagged::classes_of_tags;
+pub use crate::asn1_types::texts::{numbers_of_texts, texts_have_one_refusal};
+pub use crate::asn1_types::times::{
+    order_of_generalized_times, order_of_times, order_of_utc_times, times_have_one_refusal,
+};
+pub use crate::laws::faults::{
+    cuts_of_explicit_parsers_are_counted, cuts_of_implicit_parsers_are_counted,
+    faults_come_first_by_ber, faults_come_first_by_der, faults_of_lists_come_first,
+    faults_of_tags_come_first,
+};
+pub use crate::laws::functions::{
+    beginnings_are_refused, check_is_exact, conversion_is_exact, counts_are_of_the_strict_encoding,
+    equal_items_are_hashed_alike, leaves_have_one_refusal, reader_is_exact_by_ber,
+    reader_is_exact_by_der, strict_fronts_are_written_again, strict_parts_are_read,
+    strict_parts_have_the_number, strict_parts_take_the_class, words_and_values_are_unique,
+    written_values_are_read_back_by_ber, written_values_are_read_back_by_der,
+};
+pub use crate::laws::in_hand::{AlwaysDer, members_in_hand, octets_in_hand, text_in_hand};
 use crate::to_der::ToDer;
 use crate::traits::{CheckDerConstraints, DerAutoDerive, FromAny, FromBer, FromDer, Tagged};
+pub use asn1_headers::class::classes_are_numbered;
 use asn1_headers::error::{Error, ParseResult, SerializeResult};
+pub use asn1_headers::tag::universal_types_are_numbered;
 use asn1_headers::writer::DerWrite;
 use std::alloc::Global;
 

@@ -11,9 +11,10 @@ ghost use Rattle.asn1_rs.specs.Structs.Defaults.{default_writing, DefaultGives, 
 ghost use Rattle.asn1_rs.specs.Structs.DefaultTypes.{LawfulDefaultOf, defaulted_field, defaulted_of, defaulted_lawful};
 ghost use Rattle.asn1_rs.specs.Structs.DefaultTypes.{IsTypeOf, default_bool, its_own_type};
 
+use crate::kinds::fields::Fields;
 use crate::laws::in_hand::AlwaysDer;
 use crate::laws::{Grammar, LawfulBer, LawfulDer, LawfulItem, LawfulTagged};
-use crate::structs::field::{FieldInHand, FieldIsDer, FieldType, LawfulType, ReadsField};
+use crate::structs::field::{FieldIsDer, FieldType, LawfulType, ReadsField, WritesField};
 use crate::to_der::ToDer;
 use crate::traits::{DynTagged, FromBer, FromDer, Tagged};
 use asn1_headers::buffer::DerBuffer;
@@ -168,8 +169,19 @@ where
     }
 }
 
-impl<T: LawfulType + LawfulItem, D> FieldInHand for Defaulted<T, D> {
+impl<T, D> WritesField for Defaulted<T, D>
+where
+    T: LawfulType + LawfulItem + ToDer + Tagged,
+    D: DefaultOf<T>,
+{
+    ghost field_writing = { default_writing (λ x. x.value) D.default_laws.is_default T.writing };
+
     ghost has_a_value = { λ x. T.grammar.IsValue (T.grammar.value x.value) };
+
+    #[inline(always)]
+    fn put_field(&self, fields: &mut Fields) -> SerializeResult<()> {
+        fields.put(self)
+    }
 
     fn field_in_hand(&self) {
         self.value.has_value();

@@ -1,16 +1,18 @@
-//! The fields of structs. The module says what a type says of itself where it is a field. It says how a field is read,
-//! and what is stated of one in hand.
+//! The fields of structs. The module says what a type says of itself where it is a field. It says how a field is read
+//! and written, and what is stated of one in hand.
 ghost use Rattle.std.specs.Prelude.{◌≡◌, ℕ, List, Result};
 ghost use Rattle.asn1_headers.specs.declared.error.Err.{Err as Refusal};
 ghost use Rattle.asn1_headers.specs.declared.error.Error.{Error};
 ghost use Rattle.asn1_rs.specs.Any.{IsDefiniteOr, IsTheElement};
+ghost use Rattle.asn1_rs.specs.Fields.{taken_in, PutsField};
 ghost use Rattle.asn1_rs.specs.Traits.{BerGives, DerGives};
 ghost use Rattle.asn1_headers.specs.Answers.{seen};
 ghost use Rattle.asn1_rs.specs.Any.Value.{any_element};
 ghost use Rattle.asn1_rs.specs.Kinds.{item_grammar};
 ghost use Rattle.asn1_rs.specs.Laws.Any.Value.{element_lawful};
 ghost use Rattle.asn1_rs.specs.Laws.Kinds.{lawful_item};
-ghost use Rattle.asn1_rs.specs.Optional.{IfHeld, IsAtEnd, OptionGives};
+ghost use Rattle.asn1_rs.specs.Optional.{IfHeld, IsAtEnd, OptionGives, option_writing};
+ghost use Rattle.asn1_rs.specs.ToDer.{Writing};
 ghost use Rattle.asn1_rs.specs.Laws.Structs.Fields.{IsLawfulField, item_field_lawful, optional_field_lawful, any_field_lawful, any_option_lawful};
 ghost use Rattle.asn1_rs.specs.Structs.{FieldGrammar, item_field, optional_field, any_number, left_out_among, left_out_at_end, by_der, by_ber};
 ghost use Rattle.asn1_rs.specs.Structs.Reading.{left_out_field, required_field};
@@ -18,13 +20,16 @@ ghost use Rattle.asn1_rs.specs.Structs.Data.{ItemTypeOf, LawfulTypeOf, LawfulFie
 
 use crate::asn1_types::any::Any;
 use crate::asn1_types::option::held;
+use crate::kinds::fields::Fields;
 use crate::laws::LawfulItem;
 use crate::laws::in_hand::AlwaysDer;
 use crate::structs::ReadsBy;
+use crate::structs::putting::WritesType;
 use crate::structs::reading::ReadsType;
+use crate::to_der::ToDer;
 use crate::traits::{FromBer, FromDer};
 use asn1_headers::content::{BerParser, DerParser};
-use asn1_headers::error::{Error, ParseResult};
+use asn1_headers::error::{Error, ParseResult, SerializeResult};
 use std::alloc::Global;
 
 /// A type that may be a field of a struct: its laws stand in one record, so that a row of fields can name them.
@@ -188,44 +193,84 @@ impl<'a> ReadsField<'a, BerParser> for Option<Any<'a>> {
     }
 }
 
-/// A field in hand.
-pub trait FieldInHand {
+/// A field that is written, and what is stated of one in hand.
+pub trait WritesField {
+    /// How it is written.
+    ghost field_writing: { Writing Self };
+
     /// That its value is one of the type's.
     ghost has_a_value: { Self → Type 0 };
 
-    /// States it.
+    /// Puts the field, as [`Fields::put`] does. An option that holds nothing puts nothing.
+    fn put_field(&self, fields: &mut Fields) -> SerializeResult<()>
+        ensures { PutsField field_writing self.now (taken_in fields.old) (taken_in fields.new)
+            result };
+
+    /// States of the field in hand that its value is one of the type's.
     fn field_in_hand(&self)
         ensures { has_a_value self.now };
 }
 
-impl<T: LawfulType + LawfulItem> FieldInHand for T {
-    ghost has_a_value = { λ x. T.grammar.IsValue (T.grammar.value x) };
+impl<T: WritesType> WritesField for T {
+    ghost field_writing = { T.type_writing };
+
+    ghost has_a_value = { T.has_its_value };
+
+    #[inline(always)]
+    fn put_field(&self, fields: &mut Fields) -> SerializeResult<()> {
+        self.put_type(fields)
+    }
 
     fn field_in_hand(&self) {
-        self.has_value();
+        self.type_in_hand();
     }
 }
 
-impl FieldInHand for Any<'_> {
-    ghost has_a_value = { λ x. any_element.IsValue (any_element.value x) };
+impl<T: WritesType> WritesField for Option<T> {
+    ghost field_writing = { option_writing T.type_writing };
 
-    fn field_in_hand(&self) {
-        self.has_value();
+    ghost has_a_value = { IfHeld T.has_its_value };
+
+    #[inline(always)]
+    #[tactic(auto, using(crate::specs::Laws::Structs::Puts::held_put, crate::specs::Laws::Structs::Puts::nothing_put))]
+    fn put_field(&self, fields: &mut Fields) -> SerializeResult<()> {
+        match self {
+            Some(x) => x.put_type(fields),
+            None => Ok(()),
+        }
     }
-}
-
-impl FieldInHand for Option<Any<'_>> {
-    ghost has_a_value = { IfHeld (λ x. any_element.IsValue (any_element.value x)) };
 
     fn field_in_hand(&self) {
         if let Some(x) = self {
-            x.has_value();
+            x.type_in_hand();
         }
     }
 }
 
-impl<T: LawfulType + LawfulItem> FieldInHand for Option<T> {
-    ghost has_a_value = { IfHeld (λ x. T.grammar.IsValue (T.grammar.value x)) };
+impl<'a> WritesField for Any<'a> {
+    ghost field_writing = { ⟦<Any<'a> as ToDer>⟧.writing };
+
+    ghost has_a_value = { λ x. any_element.IsValue (any_element.value x) };
+
+    #[inline(always)]
+    fn put_field(&self, fields: &mut Fields) -> SerializeResult<()> {
+        fields.put(self)
+    }
+
+    fn field_in_hand(&self) {
+        self.has_value();
+    }
+}
+
+impl<'a> WritesField for Option<Any<'a>> {
+    ghost field_writing = { ⟦<Option<Any<'a>> as ToDer>⟧.writing };
+
+    ghost has_a_value = { IfHeld (λ x. any_element.IsValue (any_element.value x)) };
+
+    #[inline(always)]
+    fn put_field(&self, fields: &mut Fields) -> SerializeResult<()> {
+        fields.put(self)
+    }
 
     fn field_in_hand(&self) {
         if let Some(x) = self {

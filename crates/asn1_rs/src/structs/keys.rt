@@ -45,7 +45,7 @@ use std::hash::Hash;
 ///             ⟦<MeasurementRow as MemberRow>⟧.row_members).same };
 ///     }
 ///
-/// By it the struct is a [`LawfulMember`](crate::LawfulMember), where its `==` is what a derive writes:
+/// By it the struct is a [`LawfulMember`](crate::laws::LawfulMember), where its `==` is what a derive writes:
 ///
 ///     impl LawfulMember for Measurement {
 ///         ghost same = { ⟦<Measurement as KeyType>⟧.key_laws.same };

@@ -13,11 +13,14 @@
 
 pub(crate) mod defaulted;
 pub(crate) mod field;
+pub(crate) mod flat;
 pub(crate) mod keys;
 pub(crate) mod leaves_by_ber;
 pub(crate) mod leaves_by_der;
+pub(crate) mod leaves_put;
 pub(crate) mod members;
 pub(crate) mod numbers;
+pub(crate) mod putting;
 pub(crate) mod reading;
 pub(crate) mod row;
 pub(crate) mod types;
@@ -71,7 +74,7 @@ impl ReadsBy for BerParser {
 /// A struct that is a sequence of its fields, in the order of its row.
 ///
 /// So it is written as its fields, one after another, which go straight into the buffer of the whole, the last one
-/// first. It has [`Grammar`](crate::Grammar), [`LawfulItem`](crate::LawfulItem) and the laws of
+/// first. It has [`Grammar`](crate::laws::Grammar), [`LawfulItem`](crate::laws::LawfulItem) and the laws of
 /// writing and of tags. It is read where it has [`ReadsFields`].
 ///
 ///     impl LawfulStruct for Measurement {

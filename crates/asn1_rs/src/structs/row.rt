@@ -7,9 +7,8 @@ ghost use Rattle.asn1_rs.specs.Structs.{MadeOf};
 ghost use Rattle.asn1_rs.specs.Structs.Data.{LawfulRowOf, AnswersField, AnswersRow, end_row, then_row};
 
 use crate::kinds::fields::Fields;
-use crate::structs::field::{FieldInHand, FieldIsDer, FieldType, ReadsField};
+use crate::structs::field::{FieldIsDer, FieldType, ReadsField, WritesField};
 use crate::structs::{OfRow, ReadsBy};
-use crate::to_der::ToDer;
 use asn1_headers::content::{BerParser, DerParser};
 use asn1_headers::error::{DerConstraint, Error, SerializeResult};
 use std::alloc::Global;
@@ -198,19 +197,19 @@ impl BorrowedRow for () {
     fn each_in_hand(&self) {}
 }
 
-impl<'s, F: FieldInHand + ToDer, R: BorrowedRow> BorrowedRow for (&'s F, R) {
-    ghost puts = { λ r. put_then F.writing r.0.now (R.puts r.1) };
+impl<'s, F: WritesField, R: BorrowedRow> BorrowedRow for (&'s F, R) {
+    ghost puts = { λ r. put_then F.field_writing r.0.now (R.puts r.1) };
 
     ghost have_values = { λ r. F.has_a_value r.0.now × R.have_values r.1 };
 
     fn put_each(&self, fields: &mut Fields) -> SerializeResult<()> {
         if fields.goes_back() {
             return match self.1.put_each(fields) {
-                Ok(()) => fields.put(self.0),
+                Ok(()) => self.0.put_field(fields),
                 Err(e) => Err(e),
             };
         }
-        match fields.put(self.0) {
+        match self.0.put_field(fields) {
             Ok(()) => self.1.put_each(fields),
             Err(e) => Err(e),
         }
@@ -224,7 +223,7 @@ impl<'s, F: FieldInHand + ToDer, R: BorrowedRow> BorrowedRow for (&'s F, R) {
 
 /// A row of references to fields whose values in hand are all in DER form.
 ///
-/// So a struct of such fields has [`AlwaysDer`](crate::AlwaysDer):
+/// So a struct of such fields has [`AlwaysDer`](crate::laws::AlwaysDer):
 ///
 ///     impl AlwaysDerBy<FieldsKind> for Measurement {
 ///         fn der_by_kind(&self) {

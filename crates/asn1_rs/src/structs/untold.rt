@@ -7,18 +7,20 @@ ghost use Rattle.asn1_headers.specs.Answers.{seen};
 ghost use Rattle.asn1_headers.specs.Header.{identifier_of};
 ghost use Rattle.asn1_rs.specs.Laws.Structs.Fields.{any_field_lawful, any_option_lawful};
 ghost use Rattle.asn1_rs.specs.Laws.Tagged.Headed.{explicit_headed_lawful, implicit_headed_lawful};
-ghost use Rattle.asn1_rs.specs.Optional.{IfHeld, IsAtEnd, OptionGives};
+ghost use Rattle.asn1_rs.specs.Optional.{IfHeld, IsAtEnd, OptionGives, option_writing};
 ghost use Rattle.asn1_rs.specs.Structs.{any_number, item_field, left_out_at_end, optional_field};
 
 use crate::asn1_types::option::held;
 use crate::asn1_types::tagged::implicit_parser::TakesEachClass;
 use crate::asn1_types::tagged::parser::TaggedParser;
 use crate::asn1_types::tagged::{Explicit, Implicit};
+use crate::kinds::fields::Fields;
 use crate::laws::{Grammar, LawfulBer, LawfulBody, LawfulCheck, LawfulDer, LawfulItem};
-use crate::structs::field::{FieldInHand, ReadsField};
+use crate::structs::field::{ReadsField, WritesField};
+use crate::to_der::ToDer;
 use crate::traits::{FromBer, FromDer};
 use asn1_headers::content::{BerParser, DerParser};
-use asn1_headers::error::{Error, ParseResult};
+use asn1_headers::error::{Error, ParseResult, SerializeResult};
 use std::alloc::Global;
 
 /// The value at the front of the octets by DER, or none where there are no octets.
@@ -201,24 +203,38 @@ impl<'a, T: LawfulBody<'a, Error> + LawfulItem + TakesEachClass + 'a> ReadsField
     }
 }
 
-impl<'a, Kind, T> FieldInHand for TaggedParser<'a, Kind, T, Error>
+impl<'a, Kind, T> WritesField for TaggedParser<'a, Kind, T, Error>
 where
-    TaggedParser<'a, Kind, T, Error>: LawfulItem,
+    TaggedParser<'a, Kind, T, Error>: LawfulItem + ToDer,
 {
+    ghost field_writing = { ⟦<TaggedParser<'a, Kind, T, Error> as ToDer>⟧.writing };
+
     ghost has_a_value = { λ x. ⟦<TaggedParser<'a, Kind, T, Error> as Grammar>⟧.grammar.IsValue
         (⟦<TaggedParser<'a, Kind, T, Error> as Grammar>⟧.grammar.value x) };
+
+    #[inline(always)]
+    fn put_field(&self, fields: &mut Fields) -> SerializeResult<()> {
+        fields.put(self)
+    }
 
     fn field_in_hand(&self) {
         self.has_value();
     }
 }
 
-impl<'a, Kind, T> FieldInHand for Option<TaggedParser<'a, Kind, T, Error>>
+impl<'a, Kind, T> WritesField for Option<TaggedParser<'a, Kind, T, Error>>
 where
-    TaggedParser<'a, Kind, T, Error>: LawfulItem,
+    TaggedParser<'a, Kind, T, Error>: LawfulItem + ToDer,
 {
+    ghost field_writing = { option_writing ⟦<TaggedParser<'a, Kind, T, Error> as ToDer>⟧.writing };
+
     ghost has_a_value = { IfHeld (λ x. ⟦<TaggedParser<'a, Kind, T, Error> as Grammar>⟧.grammar.IsValue
         (⟦<TaggedParser<'a, Kind, T, Error> as Grammar>⟧.grammar.value x)) };
+
+    #[inline(always)]
+    fn put_field(&self, fields: &mut Fields) -> SerializeResult<()> {
+        fields.put(self)
+    }
 
     fn field_in_hand(&self) {
         if let Some(x) = self {

@@ -1,21 +1,19 @@
 -- Readers of a choice and of other arms are exact together.
 use Rattle.std.proofs.Common.{◌≡◌, ◌∙◌, ap, sym, refl, ℕ, inl, inr, Bool, true, false, List, ◌++◌, Result, Ok, Err}
 use Rattle.std.specs.Prelude.{IfErr, None}
-use Rattle.x690.specs.Octets.{IsOctets}
-use Rattle.x690.specs.Identifiers.{Identifier, IsCutIdentifier}
+use Rattle.asn1_rs.specs.Prelude.{Error, Exactly, has_a_tag, IsCutIdentifier, IsOctets, parts_of, TellsMemory}
+use Rattle.x690.specs.Identifiers.{Identifier}
 use Rattle.x690.specs.Elements.{Parts, IsDerElement}
-use Rattle.asn1_headers.specs.Answers.{Exactly, TellsMemory, IsFinal}
+use Rattle.asn1_headers.specs.Answers.{IsFinal}
 use Rattle.asn1_headers.specs.declared.error.Err.{Err as Refusal}
 use Rattle.asn1_headers.specs.declared.error.Err.TheVariants.{Error as refused}
-use Rattle.asn1_headers.specs.declared.error.Error.{Error}
 use Rattle.asn1_headers.specs.declared.error.Error.TheVariants.{UnexpectedTag, OutOfMemory}
 use Rattle.asn1_rs.specs.declared.asn1_types.any.Any.{Any}
-use Rattle.asn1_rs.specs.Any.{parts_of}
 use Rattle.asn1_rs.specs.Checks.{CheckGives}
 use Rattle.asn1_rs.specs.Grammar.{TakesBody, Checks}
 use Rattle.asn1_rs.specs.Grammar.Item.{ItemGrammar}
 use Rattle.asn1_rs.specs.Kinds.{IsExactCheck}
-use Rattle.asn1_rs.specs.Choices.{ArmsGrammar, CheckByTag, has_a_tag, IsNoArm}
+use Rattle.asn1_rs.specs.Choices.{ArmsGrammar, CheckByTag, IsNoArm}
 use Rattle.asn1_rs.specs.Laws.Choices.{clash, or_first, or_second}
 use Rattle.asn1_rs.specs.Laws.Choices.Readers.{AreTagged}
 use Rattle.asn1_rs.specs.Laws.Structs.Rows.{or_neither}

@@ -58,7 +58,7 @@ pub trait StringKind {
     type Number: Tagged;
 
     /// Its characters, a [`Repertoire`], where the contents octets are the text; their code, a
-    /// [`CharacterCode`](crate::CharacterCode), where the text is decoded.
+    /// [`CharacterCode`](crate::author::CharacterCode), where the text is decoded.
     type Characters;
 
     /// Its name in debug texts.

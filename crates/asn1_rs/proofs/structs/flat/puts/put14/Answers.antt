@@ -1,0 +1,19 @@
+use Rattle.std.proofs.Common.{sym, ◌∙◌}
+use Rattle.asn1_rs.specs.Laws.Structs.Puts.{backward_ok, backward_err, forward_ok, forward_err}
+use Rattle.asn1_rs.proofs.structs.flat.puts.put14.Goals as goal
+
+pub returns-in-Ok : goal.returns-in-Ok
+returns-in-Ok g c =
+    backward_ok _ _ _ _ _ _ _ (sym c.goes_back.ensures ∙ c.if-goes_back.true) c.in-Ok.ensures c.put_field.ensures
+
+pub returns-in-Err : goal.returns-in-Err
+returns-in-Err g c = backward_err _ _ _ _ _ _ (sym c.goes_back.ensures ∙ c.if-goes_back.true) c.in-Err.ensures
+
+pub returns-in-Ok-put_field : goal.returns-in-Ok-put_field
+returns-in-Ok-put_field g c =
+    forward_ok _ _ _ _ _ _ _ (sym c.goes_back.ensures ∙ c.if-goes_back.false) c.in-Ok-put_field.ensures
+    c.put13-in-Ok-put_field.ensures
+
+pub returns-in-Err-put_field : goal.returns-in-Err-put_field
+returns-in-Err-put_field g c =
+    forward_err _ _ _ _ _ _ (sym c.goes_back.ensures ∙ c.if-goes_back.false) c.in-Err-put_field.ensures

@@ -1,0 +1,193 @@
+//! Macros of the bodies that the author of a struct writes, of one to sixteen fields.
+
+/// The pattern of a row: nested pairs of these names, with `()` at the end.
+#[macro_export]
+macro_rules! row {
+    () => {
+        ()
+    };
+    ($first:ident $(, $rest:ident)*) => {
+        ($first, $crate::row!($($rest),*))
+    };
+}
+
+/// The body of `read_fields` and `read_fields_by_ber`: the struct whose fields the octets are.
+///
+///     read_fields!(row_by_der, alloc, octets => Measurement { place, value, error })
+#[macro_export]
+macro_rules! read_fields {
+    ($row_by:ident, $alloc:expr, $octets:expr => $made:ident { $($field:ident),+ $(,)? }) => {
+        match $crate::author::$row_by($alloc, $octets) {
+            Ok(row) => {
+                let $crate::row!($($field),+) = row;
+                Ok($made { $($field),+ })
+            }
+            Err(e) => Err(e),
+        }
+    };
+}
+
+/// The body of `put_row`.
+///
+///     put_fields!(self, fields => place, value, error)
+#[macro_export]
+macro_rules! put_fields {
+    ($x:expr, $to:expr => $a:ident $(,)?) => {
+        $crate::author::put1(&$x.$a, $to)
+    };
+    ($x:expr, $to:expr => $a:ident, $b:ident $(,)?) => {
+        $crate::author::put2(&$x.$a, &$x.$b, $to)
+    };
+    ($x:expr, $to:expr => $a:ident, $b:ident, $c:ident $(,)?) => {
+        $crate::author::put3(&$x.$a, &$x.$b, &$x.$c, $to)
+    };
+    ($x:expr, $to:expr => $a:ident, $b:ident, $c:ident, $d:ident $(,)?) => {
+        $crate::author::put4(&$x.$a, &$x.$b, &$x.$c, &$x.$d, $to)
+    };
+    ($x:expr, $to:expr => $a:ident, $b:ident, $c:ident, $d:ident, $e:ident $(,)?) => {
+        $crate::author::put5(&$x.$a, &$x.$b, &$x.$c, &$x.$d, &$x.$e, $to)
+    };
+    ($x:expr, $to:expr => $a:ident, $b:ident, $c:ident, $d:ident, $e:ident, $f:ident $(,)?) => {
+        $crate::author::put6(&$x.$a, &$x.$b, &$x.$c, &$x.$d, &$x.$e, &$x.$f, $to)
+    };
+    ($x:expr, $to:expr => $a:ident, $b:ident, $c:ident, $d:ident, $e:ident, $f:ident, $g:ident $(,)?) => {
+        $crate::author::put7(&$x.$a, &$x.$b, &$x.$c, &$x.$d, &$x.$e, &$x.$f, &$x.$g, $to)
+    };
+    ($x:expr, $to:expr => $a:ident, $b:ident, $c:ident, $d:ident, $e:ident, $f:ident, $g:ident, $h:ident $(,)?) => {
+        $crate::author::put8(&$x.$a, &$x.$b, &$x.$c, &$x.$d, &$x.$e, &$x.$f, &$x.$g, &$x.$h, $to)
+    };
+    ($x:expr, $to:expr => $a:ident, $b:ident, $c:ident, $d:ident, $e:ident, $f:ident, $g:ident, $h:ident, $i:ident $(,)?) => {
+        $crate::author::put9(&$x.$a, &$x.$b, &$x.$c, &$x.$d, &$x.$e, &$x.$f, &$x.$g, &$x.$h, &$x.$i, $to)
+    };
+    ($x:expr, $to:expr => $a:ident, $b:ident, $c:ident, $d:ident, $e:ident, $f:ident, $g:ident, $h:ident, $i:ident, $j:ident $(,)?) => {
+        $crate::author::put10(&$x.$a, &$x.$b, &$x.$c, &$x.$d, &$x.$e, &$x.$f, &$x.$g, &$x.$h, &$x.$i, &$x.$j, $to)
+    };
+    ($x:expr, $to:expr => $a:ident, $b:ident, $c:ident, $d:ident, $e:ident, $f:ident, $g:ident, $h:ident, $i:ident, $j:ident, $k:ident $(,)?) => {
+        $crate::author::put11(&$x.$a, &$x.$b, &$x.$c, &$x.$d, &$x.$e, &$x.$f, &$x.$g, &$x.$h, &$x.$i, &$x.$j, &$x.$k, $to)
+    };
+    ($x:expr, $to:expr => $a:ident, $b:ident, $c:ident, $d:ident, $e:ident, $f:ident, $g:ident, $h:ident, $i:ident, $j:ident, $k:ident, $l:ident $(,)?) => {
+        $crate::author::put12(&$x.$a, &$x.$b, &$x.$c, &$x.$d, &$x.$e, &$x.$f, &$x.$g, &$x.$h, &$x.$i, &$x.$j, &$x.$k, &$x.$l, $to)
+    };
+    ($x:expr, $to:expr => $a:ident, $b:ident, $c:ident, $d:ident, $e:ident, $f:ident, $g:ident, $h:ident, $i:ident, $j:ident, $k:ident, $l:ident, $m:ident $(,)?) => {
+        $crate::author::put13(&$x.$a, &$x.$b, &$x.$c, &$x.$d, &$x.$e, &$x.$f, &$x.$g, &$x.$h, &$x.$i, &$x.$j, &$x.$k, &$x.$l, &$x.$m, $to)
+    };
+    ($x:expr, $to:expr => $a:ident, $b:ident, $c:ident, $d:ident, $e:ident, $f:ident, $g:ident, $h:ident, $i:ident, $j:ident, $k:ident, $l:ident, $m:ident, $n:ident $(,)?) => {
+        $crate::author::put14(&$x.$a, &$x.$b, &$x.$c, &$x.$d, &$x.$e, &$x.$f, &$x.$g, &$x.$h, &$x.$i, &$x.$j, &$x.$k, &$x.$l, &$x.$m, &$x.$n, $to)
+    };
+    ($x:expr, $to:expr => $a:ident, $b:ident, $c:ident, $d:ident, $e:ident, $f:ident, $g:ident, $h:ident, $i:ident, $j:ident, $k:ident, $l:ident, $m:ident, $n:ident, $o:ident $(,)?) => {
+        $crate::author::put15(&$x.$a, &$x.$b, &$x.$c, &$x.$d, &$x.$e, &$x.$f, &$x.$g, &$x.$h, &$x.$i, &$x.$j, &$x.$k, &$x.$l, &$x.$m, &$x.$n, &$x.$o, $to)
+    };
+    ($x:expr, $to:expr => $a:ident, $b:ident, $c:ident, $d:ident, $e:ident, $f:ident, $g:ident, $h:ident, $i:ident, $j:ident, $k:ident, $l:ident, $m:ident, $n:ident, $o:ident, $p:ident $(,)?) => {
+        $crate::author::put16(&$x.$a, &$x.$b, &$x.$c, &$x.$d, &$x.$e, &$x.$f, &$x.$g, &$x.$h, &$x.$i, &$x.$j, &$x.$k, &$x.$l, &$x.$m, &$x.$n, &$x.$o, &$x.$p, $to)
+    };
+}
+
+/// The body of `row_in_hand`.
+///
+///     fields_in_hand!(self => place, value, error)
+#[macro_export]
+macro_rules! fields_in_hand {
+    ($x:expr => $a:ident $(,)?) => {
+        $crate::author::in_hand1(&$x.$a)
+    };
+    ($x:expr => $a:ident, $b:ident $(,)?) => {
+        $crate::author::in_hand2(&$x.$a, &$x.$b)
+    };
+    ($x:expr => $a:ident, $b:ident, $c:ident $(,)?) => {
+        $crate::author::in_hand3(&$x.$a, &$x.$b, &$x.$c)
+    };
+    ($x:expr => $a:ident, $b:ident, $c:ident, $d:ident $(,)?) => {
+        $crate::author::in_hand4(&$x.$a, &$x.$b, &$x.$c, &$x.$d)
+    };
+    ($x:expr => $a:ident, $b:ident, $c:ident, $d:ident, $e:ident $(,)?) => {
+        $crate::author::in_hand5(&$x.$a, &$x.$b, &$x.$c, &$x.$d, &$x.$e)
+    };
+    ($x:expr => $a:ident, $b:ident, $c:ident, $d:ident, $e:ident, $f:ident $(,)?) => {
+        $crate::author::in_hand6(&$x.$a, &$x.$b, &$x.$c, &$x.$d, &$x.$e, &$x.$f)
+    };
+    ($x:expr => $a:ident, $b:ident, $c:ident, $d:ident, $e:ident, $f:ident, $g:ident $(,)?) => {
+        $crate::author::in_hand7(&$x.$a, &$x.$b, &$x.$c, &$x.$d, &$x.$e, &$x.$f, &$x.$g)
+    };
+    ($x:expr => $a:ident, $b:ident, $c:ident, $d:ident, $e:ident, $f:ident, $g:ident, $h:ident $(,)?) => {
+        $crate::author::in_hand8(&$x.$a, &$x.$b, &$x.$c, &$x.$d, &$x.$e, &$x.$f, &$x.$g, &$x.$h)
+    };
+    ($x:expr => $a:ident, $b:ident, $c:ident, $d:ident, $e:ident, $f:ident, $g:ident, $h:ident, $i:ident $(,)?) => {
+        $crate::author::in_hand9(&$x.$a, &$x.$b, &$x.$c, &$x.$d, &$x.$e, &$x.$f, &$x.$g, &$x.$h, &$x.$i)
+    };
+    ($x:expr => $a:ident, $b:ident, $c:ident, $d:ident, $e:ident, $f:ident, $g:ident, $h:ident, $i:ident, $j:ident $(,)?) => {
+        $crate::author::in_hand10(&$x.$a, &$x.$b, &$x.$c, &$x.$d, &$x.$e, &$x.$f, &$x.$g, &$x.$h, &$x.$i, &$x.$j)
+    };
+    ($x:expr => $a:ident, $b:ident, $c:ident, $d:ident, $e:ident, $f:ident, $g:ident, $h:ident, $i:ident, $j:ident, $k:ident $(,)?) => {
+        $crate::author::in_hand11(&$x.$a, &$x.$b, &$x.$c, &$x.$d, &$x.$e, &$x.$f, &$x.$g, &$x.$h, &$x.$i, &$x.$j, &$x.$k)
+    };
+    ($x:expr => $a:ident, $b:ident, $c:ident, $d:ident, $e:ident, $f:ident, $g:ident, $h:ident, $i:ident, $j:ident, $k:ident, $l:ident $(,)?) => {
+        $crate::author::in_hand12(&$x.$a, &$x.$b, &$x.$c, &$x.$d, &$x.$e, &$x.$f, &$x.$g, &$x.$h, &$x.$i, &$x.$j, &$x.$k, &$x.$l)
+    };
+    ($x:expr => $a:ident, $b:ident, $c:ident, $d:ident, $e:ident, $f:ident, $g:ident, $h:ident, $i:ident, $j:ident, $k:ident, $l:ident, $m:ident $(,)?) => {
+        $crate::author::in_hand13(&$x.$a, &$x.$b, &$x.$c, &$x.$d, &$x.$e, &$x.$f, &$x.$g, &$x.$h, &$x.$i, &$x.$j, &$x.$k, &$x.$l, &$x.$m)
+    };
+    ($x:expr => $a:ident, $b:ident, $c:ident, $d:ident, $e:ident, $f:ident, $g:ident, $h:ident, $i:ident, $j:ident, $k:ident, $l:ident, $m:ident, $n:ident $(,)?) => {
+        $crate::author::in_hand14(&$x.$a, &$x.$b, &$x.$c, &$x.$d, &$x.$e, &$x.$f, &$x.$g, &$x.$h, &$x.$i, &$x.$j, &$x.$k, &$x.$l, &$x.$m, &$x.$n)
+    };
+    ($x:expr => $a:ident, $b:ident, $c:ident, $d:ident, $e:ident, $f:ident, $g:ident, $h:ident, $i:ident, $j:ident, $k:ident, $l:ident, $m:ident, $n:ident, $o:ident $(,)?) => {
+        $crate::author::in_hand15(&$x.$a, &$x.$b, &$x.$c, &$x.$d, &$x.$e, &$x.$f, &$x.$g, &$x.$h, &$x.$i, &$x.$j, &$x.$k, &$x.$l, &$x.$m, &$x.$n, &$x.$o)
+    };
+    ($x:expr => $a:ident, $b:ident, $c:ident, $d:ident, $e:ident, $f:ident, $g:ident, $h:ident, $i:ident, $j:ident, $k:ident, $l:ident, $m:ident, $n:ident, $o:ident, $p:ident $(,)?) => {
+        $crate::author::in_hand16(&$x.$a, &$x.$b, &$x.$c, &$x.$d, &$x.$e, &$x.$f, &$x.$g, &$x.$h, &$x.$i, &$x.$j, &$x.$k, &$x.$l, &$x.$m, &$x.$n, &$x.$o, &$x.$p)
+    };
+}
+
+/// The body of `der_by_kind`.
+///
+///     fields_in_der!(self => place, value, error)
+#[macro_export]
+macro_rules! fields_in_der {
+    ($x:expr => $a:ident $(,)?) => {
+        $crate::author::in_der1(&$x.$a)
+    };
+    ($x:expr => $a:ident, $b:ident $(,)?) => {
+        $crate::author::in_der2(&$x.$a, &$x.$b)
+    };
+    ($x:expr => $a:ident, $b:ident, $c:ident $(,)?) => {
+        $crate::author::in_der3(&$x.$a, &$x.$b, &$x.$c)
+    };
+    ($x:expr => $a:ident, $b:ident, $c:ident, $d:ident $(,)?) => {
+        $crate::author::in_der4(&$x.$a, &$x.$b, &$x.$c, &$x.$d)
+    };
+    ($x:expr => $a:ident, $b:ident, $c:ident, $d:ident, $e:ident $(,)?) => {
+        $crate::author::in_der5(&$x.$a, &$x.$b, &$x.$c, &$x.$d, &$x.$e)
+    };
+    ($x:expr => $a:ident, $b:ident, $c:ident, $d:ident, $e:ident, $f:ident $(,)?) => {
+        $crate::author::in_der6(&$x.$a, &$x.$b, &$x.$c, &$x.$d, &$x.$e, &$x.$f)
+    };
+    ($x:expr => $a:ident, $b:ident, $c:ident, $d:ident, $e:ident, $f:ident, $g:ident $(,)?) => {
+        $crate::author::in_der7(&$x.$a, &$x.$b, &$x.$c, &$x.$d, &$x.$e, &$x.$f, &$x.$g)
+    };
+    ($x:expr => $a:ident, $b:ident, $c:ident, $d:ident, $e:ident, $f:ident, $g:ident, $h:ident $(,)?) => {
+        $crate::author::in_der8(&$x.$a, &$x.$b, &$x.$c, &$x.$d, &$x.$e, &$x.$f, &$x.$g, &$x.$h)
+    };
+    ($x:expr => $a:ident, $b:ident, $c:ident, $d:ident, $e:ident, $f:ident, $g:ident, $h:ident, $i:ident $(,)?) => {
+        $crate::author::in_der9(&$x.$a, &$x.$b, &$x.$c, &$x.$d, &$x.$e, &$x.$f, &$x.$g, &$x.$h, &$x.$i)
+    };
+    ($x:expr => $a:ident, $b:ident, $c:ident, $d:ident, $e:ident, $f:ident, $g:ident, $h:ident, $i:ident, $j:ident $(,)?) => {
+        $crate::author::in_der10(&$x.$a, &$x.$b, &$x.$c, &$x.$d, &$x.$e, &$x.$f, &$x.$g, &$x.$h, &$x.$i, &$x.$j)
+    };
+    ($x:expr => $a:ident, $b:ident, $c:ident, $d:ident, $e:ident, $f:ident, $g:ident, $h:ident, $i:ident, $j:ident, $k:ident $(,)?) => {
+        $crate::author::in_der11(&$x.$a, &$x.$b, &$x.$c, &$x.$d, &$x.$e, &$x.$f, &$x.$g, &$x.$h, &$x.$i, &$x.$j, &$x.$k)
+    };
+    ($x:expr => $a:ident, $b:ident, $c:ident, $d:ident, $e:ident, $f:ident, $g:ident, $h:ident, $i:ident, $j:ident, $k:ident, $l:ident $(,)?) => {
+        $crate::author::in_der12(&$x.$a, &$x.$b, &$x.$c, &$x.$d, &$x.$e, &$x.$f, &$x.$g, &$x.$h, &$x.$i, &$x.$j, &$x.$k, &$x.$l)
+    };
+    ($x:expr => $a:ident, $b:ident, $c:ident, $d:ident, $e:ident, $f:ident, $g:ident, $h:ident, $i:ident, $j:ident, $k:ident, $l:ident, $m:ident $(,)?) => {
+        $crate::author::in_der13(&$x.$a, &$x.$b, &$x.$c, &$x.$d, &$x.$e, &$x.$f, &$x.$g, &$x.$h, &$x.$i, &$x.$j, &$x.$k, &$x.$l, &$x.$m)
+    };
+    ($x:expr => $a:ident, $b:ident, $c:ident, $d:ident, $e:ident, $f:ident, $g:ident, $h:ident, $i:ident, $j:ident, $k:ident, $l:ident, $m:ident, $n:ident $(,)?) => {
+        $crate::author::in_der14(&$x.$a, &$x.$b, &$x.$c, &$x.$d, &$x.$e, &$x.$f, &$x.$g, &$x.$h, &$x.$i, &$x.$j, &$x.$k, &$x.$l, &$x.$m, &$x.$n)
+    };
+    ($x:expr => $a:ident, $b:ident, $c:ident, $d:ident, $e:ident, $f:ident, $g:ident, $h:ident, $i:ident, $j:ident, $k:ident, $l:ident, $m:ident, $n:ident, $o:ident $(,)?) => {
+        $crate::author::in_der15(&$x.$a, &$x.$b, &$x.$c, &$x.$d, &$x.$e, &$x.$f, &$x.$g, &$x.$h, &$x.$i, &$x.$j, &$x.$k, &$x.$l, &$x.$m, &$x.$n, &$x.$o)
+    };
+    ($x:expr => $a:ident, $b:ident, $c:ident, $d:ident, $e:ident, $f:ident, $g:ident, $h:ident, $i:ident, $j:ident, $k:ident, $l:ident, $m:ident, $n:ident, $o:ident, $p:ident $(,)?) => {
+        $crate::author::in_der16(&$x.$a, &$x.$b, &$x.$c, &$x.$d, &$x.$e, &$x.$f, &$x.$g, &$x.$h, &$x.$i, &$x.$j, &$x.$k, &$x.$l, &$x.$m, &$x.$n, &$x.$o, &$x.$p)
+    };
+}

@@ -1,0 +1,8 @@
+//! Rows of fields as flat calls, of one to sixteen fields: what puts them, and what states something of each of them.
+//!
+//! A row of references ([`BorrowedRow`](crate::structs::row::BorrowedRow)) does the same as nested pairs, of fewer
+//! fields: the checker passes a lifetime for each of its pairs.
+
+pub(crate) mod in_der;
+pub(crate) mod in_hand;
+pub(crate) mod puts;
