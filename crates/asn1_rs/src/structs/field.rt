@@ -97,8 +97,8 @@ impl<'a, T: ReadsType<'a, P>, P: ReadsBy> ReadsField<'a, P> for T {
     }
 }
 
-// One impl for each of the rules: with the parser as a parameter a crate above could give an `Option` a `ReadsType` by a
-// parser of its own.
+// An impl for each of the rules: with the parser as a parameter a crate above could give an `Option` a `ReadsType` by
+// a parser of its own.
 impl<'a, T: ReadsType<'a, DerParser>> ReadsField<'a, DerParser> for Option<T> {
     ghost field_grammar = { left_out_field T.numbered };
 
