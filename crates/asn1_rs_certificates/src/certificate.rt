@@ -4,12 +4,12 @@ ghost use Rattle.asn1_rs.specs.Prelude.{IsWhole, MadeOf, ReadsByDer, refl, seen,
 use crate::TbsCertificate;
 use asn1_rs::author::{
     BorrowedRow, Fields, FieldsKind, HasKind, HasReader, LawfulStruct, ReadsFields, ReadsRow, Row,
-    StructReader, row_by_der,
+    StructReader,
 };
 use asn1_rs::laws::Grammar;
 use asn1_rs::{
     BitString, DerParser, Error, FromDer, ParseResult, SerializeResult, ToDer, read_der,
-    read_der_whole, strict_vec,
+    read_der_whole, read_fields, strict_vec,
 };
 use asn1_rs_messages::AlgorithmIdentifier;
 use std::alloc::Global;
@@ -61,17 +61,7 @@ impl<'a> ReadsFields<'a> for Certificate<'a> {
         ⟦<CertificateRow<'a> as ReadsRow<'a, DerParser>>⟧.row_gives };
 
     fn read_fields(alloc: Global, octets: &'a [u8]) -> Result<Certificate<'a>, Error> {
-        match row_by_der(alloc, octets) {
-            Ok(row) => {
-                let (tbs_certificate, (signature_algorithm, (signature_value, ()))) = row;
-                Ok(Certificate {
-                    tbs_certificate,
-                    signature_algorithm,
-                    signature_value,
-                })
-            }
-            Err(e) => Err(e),
-        }
+        read_fields!(row_by_der, alloc, octets => Certificate { tbs_certificate, signature_algorithm, signature_value })
     }
 }
 

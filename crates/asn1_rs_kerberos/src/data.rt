@@ -3,10 +3,11 @@ ghost use Rattle.asn1_rs.specs.Prelude.{MadeOf, refl, struct_of};
 
 use crate::Under;
 use asn1_rs::author::{
-    BorrowedRow, Fields, FieldsKind, HasKind, HasReader, LawfulStruct, ReadsFields, ReadsRow, Row,
-    StructReader, row_by_der,
+    Fields, FieldsKind, HasKind, HasReader, LawfulStruct, ReadsFields, ReadsRow, Row, StructReader,
 };
-use asn1_rs::{DerParser, Error, OctetString, SerializeResult};
+use asn1_rs::{
+    DerParser, Error, OctetString, SerializeResult, fields_in_hand, put_fields, read_fields,
+};
 use std::alloc::Global;
 
 /// Data for the authentication, of a type that says what its octets are (5.2.7).
@@ -36,11 +37,11 @@ impl<'a> LawfulStruct for PaData<'a> {
         ⟦<PaDataRow<'a> as Row>⟧.row_laws refl };
 
     fn put_row(&self, fields: &mut Fields) -> SerializeResult<()> {
-        (&self.padata_type, (&self.padata_value, ())).put_each(fields)
+        put_fields!(self, fields => padata_type, padata_value)
     }
 
     fn row_in_hand(&self) {
-        (&self.padata_type, (&self.padata_value, ())).each_in_hand()
+        fields_in_hand!(self => padata_type, padata_value)
     }
 }
 
@@ -49,16 +50,7 @@ impl<'a> ReadsFields<'a> for PaData<'a> {
         ⟦<PaDataRow<'a> as ReadsRow<'a, DerParser>>⟧.row_gives };
 
     fn read_fields(alloc: Global, octets: &'a [u8]) -> Result<PaData<'a>, Error> {
-        match row_by_der(alloc, octets) {
-            Ok(row) => {
-                let (padata_type, (padata_value, ())) = row;
-                Ok(PaData {
-                    padata_type,
-                    padata_value,
-                })
-            }
-            Err(e) => Err(e),
-        }
+        read_fields!(row_by_der, alloc, octets => PaData { padata_type, padata_value })
     }
 }
 
@@ -89,11 +81,11 @@ impl<'a> LawfulStruct for HostAddress<'a> {
         ⟦<HostAddressRow<'a> as Row>⟧.row_laws refl };
 
     fn put_row(&self, fields: &mut Fields) -> SerializeResult<()> {
-        (&self.addr_type, (&self.address, ())).put_each(fields)
+        put_fields!(self, fields => addr_type, address)
     }
 
     fn row_in_hand(&self) {
-        (&self.addr_type, (&self.address, ())).each_in_hand()
+        fields_in_hand!(self => addr_type, address)
     }
 }
 
@@ -102,13 +94,7 @@ impl<'a> ReadsFields<'a> for HostAddress<'a> {
         ⟦<HostAddressRow<'a> as ReadsRow<'a, DerParser>>⟧.row_gives };
 
     fn read_fields(alloc: Global, octets: &'a [u8]) -> Result<HostAddress<'a>, Error> {
-        match row_by_der(alloc, octets) {
-            Ok(row) => {
-                let (addr_type, (address, ())) = row;
-                Ok(HostAddress { addr_type, address })
-            }
-            Err(e) => Err(e),
-        }
+        read_fields!(row_by_der, alloc, octets => HostAddress { addr_type, address })
     }
 }
 
@@ -144,11 +130,11 @@ impl<'a> LawfulStruct for EncryptedData<'a> {
         ⟦<EncryptedDataRow<'a> as Row>⟧.row_laws refl };
 
     fn put_row(&self, fields: &mut Fields) -> SerializeResult<()> {
-        (&self.etype, (&self.kvno, (&self.cipher, ()))).put_each(fields)
+        put_fields!(self, fields => etype, kvno, cipher)
     }
 
     fn row_in_hand(&self) {
-        (&self.etype, (&self.kvno, (&self.cipher, ()))).each_in_hand()
+        fields_in_hand!(self => etype, kvno, cipher)
     }
 }
 
@@ -157,16 +143,6 @@ impl<'a> ReadsFields<'a> for EncryptedData<'a> {
         ⟦<EncryptedDataRow<'a> as ReadsRow<'a, DerParser>>⟧.row_gives };
 
     fn read_fields(alloc: Global, octets: &'a [u8]) -> Result<EncryptedData<'a>, Error> {
-        match row_by_der(alloc, octets) {
-            Ok(row) => {
-                let (etype, (kvno, (cipher, ()))) = row;
-                Ok(EncryptedData {
-                    etype,
-                    kvno,
-                    cipher,
-                })
-            }
-            Err(e) => Err(e),
-        }
+        read_fields!(row_by_der, alloc, octets => EncryptedData { etype, kvno, cipher })
     }
 }

@@ -5,11 +5,13 @@ ghost use Rattle.asn1_rs_ldap.specs.declared.substrings.Substring.TheVariants as
 
 use crate::Octets;
 use asn1_rs::author::{
-    Arms, BorrowedRow, ChoiceKind, ChoiceReader, Fields, FieldsKind, HasKind, HasReader,
-    LawfulChoice, LawfulStruct, LawfulType, Never, OfArms, Or, OrTagged, ReadsChoiceByBer,
-    ReadsFieldsByBer, ReadsRow, Row, StructReader, UsesArm, choice_of_element, row_by_ber,
+    Arms, ChoiceKind, ChoiceReader, Fields, FieldsKind, HasKind, HasReader, LawfulChoice,
+    LawfulStruct, LawfulType, Never, OfArms, Or, OrTagged, ReadsChoiceByBer, ReadsFieldsByBer,
+    ReadsRow, Row, StructReader, UsesArm, choice_of_element,
 };
-use asn1_rs::{Any, BerParser, DynTagged, Error, OctetString, SerializeResult, Tag};
+use asn1_rs::{
+    Any, BerParser, DynTagged, Error, OctetString, SerializeResult, Tag, fields_in_hand, put_fields,
+};
 use std::alloc::Global;
 
 /// A part of a text, and where it stands.
@@ -129,11 +131,11 @@ impl<'a> LawfulStruct for SubstringFilter<'a> {
         ⟦<SubstringFilterRow<'a> as Row>⟧.row_laws refl };
 
     fn put_row(&self, fields: &mut Fields) -> SerializeResult<()> {
-        (&self.attribute, (&self.substrings, ())).put_each(fields)
+        put_fields!(self, fields => attribute, substrings)
     }
 
     fn row_in_hand(&self) {
-        (&self.attribute, (&self.substrings, ())).each_in_hand()
+        fields_in_hand!(self => attribute, substrings)
     }
 }
 

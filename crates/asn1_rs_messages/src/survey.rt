@@ -3,13 +3,13 @@ ghost use Rattle.asn1_rs.specs.Prelude.{MadeOf, ReadsByBer, ReadsByDer, refl, se
 
 use crate::Measurement;
 use asn1_rs::author::{
-    BorrowedRow, Fields, FieldsKind, HasKind, HasReader, LawfulStruct, ReadsFields,
-    ReadsFieldsByBer, ReadsRow, Row, StructReader, row_by_ber, row_by_der,
+    Fields, FieldsKind, HasKind, HasReader, LawfulStruct, ReadsFields, ReadsFieldsByBer, ReadsRow,
+    Row, StructReader,
 };
 use asn1_rs::laws::Grammar;
 use asn1_rs::{
-    BerParser, BmpString, Boolean, DerParser, Error, ParseResult, SerializeResult, ToDer, read_ber,
-    read_der, strict_vec,
+    BerParser, BmpString, Boolean, DerParser, Error, ParseResult, SerializeResult, ToDer,
+    fields_in_hand, put_fields, read_ber, read_der, strict_vec,
 };
 use std::alloc::Global;
 use std::collections::{BTreeSet, HashSet};
@@ -48,19 +48,11 @@ impl<'a> LawfulStruct for Survey<'a> {
         ⟦<SurveyRow<'a> as Row>⟧.row_laws refl };
 
     fn put_row(&self, fields: &mut Fields) -> SerializeResult<()> {
-        (
-            &self.station,
-            (&self.finished, (&self.places, (&self.measurements, ()))),
-        )
-            .put_each(fields)
+        put_fields!(self, fields => station, finished, places, measurements)
     }
 
     fn row_in_hand(&self) {
-        (
-            &self.station,
-            (&self.finished, (&self.places, (&self.measurements, ()))),
-        )
-            .each_in_hand()
+        fields_in_hand!(self => station, finished, places, measurements)
     }
 }
 
