@@ -3,13 +3,12 @@ ghost use Rattle.asn1_rs.specs.Prelude.{IsWhole, MadeOf, ReadsByDer, refl, seen,
 
 use crate::TbsCertificate;
 use asn1_rs::author::{
-    BorrowedRow, Fields, FieldsKind, HasKind, HasReader, LawfulStruct, ReadsFields, ReadsRow, Row,
-    StructReader,
+    Fields, FieldsKind, HasKind, HasReader, LawfulStruct, ReadsFields, ReadsRow, Row, StructReader,
 };
 use asn1_rs::laws::Grammar;
 use asn1_rs::{
-    BitString, DerParser, Error, FromDer, ParseResult, SerializeResult, ToDer, read_der,
-    read_der_whole, read_fields, strict_vec,
+    BitString, DerParser, Error, FromDer, ParseResult, SerializeResult, ToDer, fields_in_hand,
+    put_fields, read_der, read_der_whole, read_fields, strict_vec,
 };
 use asn1_rs_messages::AlgorithmIdentifier;
 use std::alloc::Global;
@@ -46,13 +45,11 @@ impl<'a> LawfulStruct for Certificate<'a> {
         ⟦<CertificateRow<'a> as Row>⟧.row_laws refl };
 
     fn put_row(&self, fields: &mut Fields) -> SerializeResult<()> {
-        let signature = (&self.signature_algorithm, (&self.signature_value, ()));
-        (&self.tbs_certificate, signature).put_each(fields)
+        put_fields!(self, fields => tbs_certificate, signature_algorithm, signature_value)
     }
 
     fn row_in_hand(&self) {
-        let signature = (&self.signature_algorithm, (&self.signature_value, ()));
-        (&self.tbs_certificate, signature).each_in_hand()
+        fields_in_hand!(self => tbs_certificate, signature_algorithm, signature_value)
     }
 }
 
@@ -61,7 +58,9 @@ impl<'a> ReadsFields<'a> for Certificate<'a> {
         ⟦<CertificateRow<'a> as ReadsRow<'a, DerParser>>⟧.row_gives };
 
     fn read_fields(alloc: Global, octets: &'a [u8]) -> Result<Certificate<'a>, Error> {
-        read_fields!(row_by_der, alloc, octets => Certificate { tbs_certificate, signature_algorithm, signature_value })
+        read_fields!(row_by_der, alloc, octets => Certificate {
+            tbs_certificate, signature_algorithm, signature_value
+        })
     }
 }
 

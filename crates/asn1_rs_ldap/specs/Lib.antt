@@ -1,4 +1,3 @@
-pub mod Endings
 pub mod Filters
 pub mod Searches
 pub mod Controls

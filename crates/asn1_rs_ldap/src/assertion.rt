@@ -1,18 +1,16 @@
 //! What a filter asserts of an attribute (RFC 4511, 4.1.6 and 4.5.1.7).
 ghost use Rattle.asn1_rs.specs.Prelude.{its_own_type, MadeOf, refl, struct_of};
 ghost use Rattle.std.proofs.Common.{false};
-ghost use Rattle.asn1_rs_ldap.specs.Endings.{compared_of};
 ghost use Rattle.asn1_rs.specs.Structs.DefaultTypes.{default_bool, default_implicit};
 
 use crate::Octets;
-use crate::matching::{ComparedValue, ComparedValueOf};
 use asn1_rs::author::{
-    BorrowedRow, DefaultOf, Fields, FieldsKind, HasKind, HasReader, LawfulStruct, ReadsFieldsByBer,
-    ReadsRow, Row, StructReader,
+    DefaultOf, Fields, FieldsKind, HasKind, HasReader, LawfulStruct, ReadsFieldsByBer, ReadsRow,
+    Row, StructReader,
 };
 use asn1_rs::{
     BerParser, Defaulted, Error, OctetString, SerializeResult, TaggedImplicit, fields_in_hand,
-    put_fields,
+    put_fields, read_fields,
 };
 use std::alloc::Global;
 
@@ -59,13 +57,7 @@ impl<'a> ReadsFieldsByBer<'a> for AttributeValueAssertion<'a> {
         alloc: Global,
         octets: &'a [u8],
     ) -> Result<AttributeValueAssertion<'a>, Error> {
-        match row_by_ber::<AttributeValueRow<'a>>(alloc, octets) {
-            Ok(row) => {
-                let (attribute, (value, ())) = row;
-                Ok(AttributeValueAssertion { attribute, value })
-            }
-            Err(e) => Err(e),
-        }
+        read_fields!(row_by_ber, alloc, octets => AttributeValueAssertion { attribute, value })
     }
 }
 
@@ -108,7 +100,10 @@ impl DefaultOf<DnAttributes> for NotOfTheName {
 /// Its fields.
 pub type MatchingRuleRow<'a> = (
     Option<Octets<'a, 1>>,
-    (Option<Octets<'a, 2>>, ComparedValue<'a>),
+    (
+        Option<Octets<'a, 2>>,
+        (Octets<'a, 3>, (Defaulted<DnAttributes, NotOfTheName>, ())),
+    ),
 );
 
 impl HasKind for MatchingRuleAssertion<'_> {
@@ -120,15 +115,15 @@ impl HasReader for MatchingRuleAssertion<'_> {
 }
 
 impl<'a> LawfulStruct for MatchingRuleAssertion<'a> {
-    ghost laws = { struct_of (λ x. (x.rule, (x.attribute, compared_of x)))
+    ghost laws = { struct_of (λ x. (x.rule, (x.attribute, (x.value, (x.dn_attributes, tt)))))
         ⟦<MatchingRuleRow<'a> as Row>⟧.row_laws refl };
 
     fn put_row(&self, fields: &mut Fields) -> SerializeResult<()> {
-        (&self.rule, (&self.attribute, ComparedValueOf(self))).put_each(fields)
+        put_fields!(self, fields => rule, attribute, value, dn_attributes)
     }
 
     fn row_in_hand(&self) {
-        (&self.rule, (&self.attribute, ComparedValueOf(self))).each_in_hand()
+        fields_in_hand!(self => rule, attribute, value, dn_attributes)
     }
 }
 
@@ -140,17 +135,8 @@ impl<'a> ReadsFieldsByBer<'a> for MatchingRuleAssertion<'a> {
         alloc: Global,
         octets: &'a [u8],
     ) -> Result<MatchingRuleAssertion<'a>, Error> {
-        match row_by_ber::<MatchingRuleRow<'a>>(alloc, octets) {
-            Ok(row) => {
-                let (rule, (attribute, compared)) = row;
-                Ok(MatchingRuleAssertion {
-                    rule,
-                    attribute,
-                    value: compared.value,
-                    dn_attributes: compared.dn_attributes,
-                })
-            }
-            Err(e) => Err(e),
-        }
+        read_fields!(row_by_ber, alloc, octets => MatchingRuleAssertion {
+            rule, attribute, value, dn_attributes
+        })
     }
 }

@@ -10,7 +10,8 @@ use asn1_rs::author::{
     ReadsRow, Row, StructReader, UsesArm, choice_of_element,
 };
 use asn1_rs::{
-    Any, BerParser, DynTagged, Error, OctetString, SerializeResult, Tag, fields_in_hand, put_fields,
+    Any, BerParser, DynTagged, Error, OctetString, SerializeResult, Tag, fields_in_hand,
+    put_fields, read_fields,
 };
 use std::alloc::Global;
 
@@ -144,15 +145,6 @@ impl<'a> ReadsFieldsByBer<'a> for SubstringFilter<'a> {
         ⟦<SubstringFilterRow<'a> as ReadsRow<'a, BerParser>>⟧.row_gives };
 
     fn read_fields_by_ber(alloc: Global, octets: &'a [u8]) -> Result<SubstringFilter<'a>, Error> {
-        match row_by_ber::<SubstringFilterRow<'a>>(alloc, octets) {
-            Ok(row) => {
-                let (attribute, (substrings, ())) = row;
-                Ok(SubstringFilter {
-                    attribute,
-                    substrings,
-                })
-            }
-            Err(e) => Err(e),
-        }
+        read_fields!(row_by_ber, alloc, octets => SubstringFilter { attribute, substrings })
     }
 }

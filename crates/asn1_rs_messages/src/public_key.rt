@@ -110,7 +110,9 @@ impl<'a> ReadsFields<'a> for SubjectPublicKeyInfo<'a> {
         ⟦<PublicKeyRow<'a> as ReadsRow<'a, DerParser>>⟧.row_gives };
 
     fn read_fields(alloc: Global, octets: &'a [u8]) -> Result<SubjectPublicKeyInfo<'a>, Error> {
-        read_fields!(row_by_der, alloc, octets => SubjectPublicKeyInfo { algorithm, subject_public_key })
+        read_fields!(row_by_der, alloc, octets => SubjectPublicKeyInfo {
+            algorithm, subject_public_key
+        })
     }
 }
 

@@ -9,7 +9,7 @@ use asn1_rs::author::{
 use asn1_rs::laws::Grammar;
 use asn1_rs::{
     BerParser, BmpString, Boolean, DerParser, Error, ParseResult, SerializeResult, ToDer,
-    fields_in_hand, put_fields, read_ber, read_der, strict_vec,
+    fields_in_hand, put_fields, read_ber, read_der, read_fields, strict_vec,
 };
 use std::alloc::Global;
 use std::collections::{BTreeSet, HashSet};
@@ -61,18 +61,9 @@ impl<'a> ReadsFields<'a> for Survey<'a> {
         ⟦<SurveyRow<'a> as ReadsRow<'a, DerParser>>⟧.row_gives };
 
     fn read_fields(alloc: Global, octets: &'a [u8]) -> Result<Survey<'a>, Error> {
-        match row_by_der::<SurveyRow<'a>>(alloc, octets) {
-            Ok(row) => {
-                let (station, (finished, (places, (measurements, ())))) = row;
-                Ok(Survey {
-                    station,
-                    finished,
-                    places,
-                    measurements,
-                })
-            }
-            Err(e) => Err(e),
-        }
+        read_fields!(row_by_der, alloc, octets => Survey {
+            station, finished, places, measurements
+        })
     }
 }
 
@@ -81,18 +72,9 @@ impl<'a> ReadsFieldsByBer<'a> for Survey<'a> {
         ⟦<SurveyRow<'a> as ReadsRow<'a, BerParser>>⟧.row_gives };
 
     fn read_fields_by_ber(alloc: Global, octets: &'a [u8]) -> Result<Survey<'a>, Error> {
-        match row_by_ber::<SurveyRow<'a>>(alloc, octets) {
-            Ok(row) => {
-                let (station, (finished, (places, (measurements, ())))) = row;
-                Ok(Survey {
-                    station,
-                    finished,
-                    places,
-                    measurements,
-                })
-            }
-            Err(e) => Err(e),
-        }
+        read_fields!(row_by_ber, alloc, octets => Survey {
+            station, finished, places, measurements
+        })
     }
 }
 

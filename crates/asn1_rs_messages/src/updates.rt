@@ -58,7 +58,9 @@ impl<'a> ReadsFields<'a> for Updates {
         ⟦<UpdatesRow as ReadsRow<'a, DerParser>>⟧.row_gives };
 
     fn read_fields(alloc: Global, octets: &'a [u8]) -> Result<Updates, Error> {
-        read_fields!(row_by_der, alloc, octets => Updates { this_update, next_update, earlier, last })
+        read_fields!(row_by_der, alloc, octets => Updates {
+            this_update, next_update, earlier, last
+        })
     }
 }
 
@@ -67,7 +69,9 @@ impl<'a> ReadsFieldsByBer<'a> for Updates {
         ⟦<UpdatesRow as ReadsRow<'a, BerParser>>⟧.row_gives };
 
     fn read_fields_by_ber(alloc: Global, octets: &'a [u8]) -> Result<Updates, Error> {
-        read_fields!(row_by_ber, alloc, octets => Updates { this_update, next_update, earlier, last })
+        read_fields!(row_by_ber, alloc, octets => Updates {
+            this_update, next_update, earlier, last
+        })
     }
 }
 
