@@ -3,7 +3,8 @@ ghost use Rattle.asn1_rs.specs.Prelude.{IsWhole, MadeOf, ReadsByDer, refl, seen,
 
 use crate::TbsCertificate;
 use asn1_rs::author::{
-    Fields, FieldsKind, HasKind, HasReader, LawfulStruct, ReadsFields, ReadsRow, Row, StructReader,
+    Fields, FieldsKind, HasKind, HasReader, LawfulStruct, ReadsFields, ReadsRow, Row, Row3,
+    StructReader,
 };
 use asn1_rs::laws::Grammar;
 use asn1_rs::{
@@ -27,10 +28,7 @@ pub struct Certificate<'a> {
 }
 
 /// Its fields.
-pub type CertificateRow<'a> = (
-    TbsCertificate<'a>,
-    (AlgorithmIdentifier<'a>, (BitString<'a>, ())),
-);
+pub type CertificateRow<'a> = Row3<TbsCertificate<'a>, AlgorithmIdentifier<'a>, BitString<'a>>;
 
 impl HasKind for Certificate<'_> {
     type Kind = FieldsKind;

@@ -4,7 +4,8 @@ ghost use Rattle.asn1_rs.specs.Prelude.{MadeOf, parts_of, refl, struct_of};
 ghost use Rattle.asn1_rs.specs.Any.Text.{utf8_checks};
 
 use asn1_rs::author::{
-    Fields, FieldsKind, HasKind, HasReader, LawfulStruct, ReadsFields, ReadsRow, Row, StructReader,
+    Fields, FieldsKind, HasKind, HasReader, LawfulStruct, ReadsFields, ReadsRow, Row, Row2,
+    StructReader,
 };
 use asn1_rs::{
     Any, DerParser, Error, Oid, SerializeResult, SetOf, fields_in_hand, put_fields, read_fields,
@@ -28,7 +29,7 @@ pub struct Attribute<'a> {
 }
 
 /// Its fields.
-pub type AttributeRow<'a> = (Oid<'a>, (Any<'a>, ()));
+pub type AttributeRow<'a> = Row2<Oid<'a>, Any<'a>>;
 
 impl HasKind for Attribute<'_> {
     type Kind = FieldsKind;

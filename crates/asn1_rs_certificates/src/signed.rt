@@ -6,7 +6,7 @@ ghost use Rattle.asn1_rs.specs.Structs.DefaultTypes.{default_explicit, default_u
 use crate::Name;
 use asn1_rs::author::{
     DefaultOf, Fields, FieldsKind, HasKind, HasReader, LawfulStruct, ReadsFields, ReadsRow, Row,
-    StructReader,
+    Row10, StructReader,
 };
 use asn1_rs::{
     BitString, Defaulted, DerParser, Error, Integer, SerializeResult, TaggedExplicit,
@@ -73,31 +73,18 @@ impl DefaultOf<Version> for FirstVersion {
 }
 
 /// Its fields.
-pub type TbsCertificateRow<'a> = (
+pub type TbsCertificateRow<'a> = Row10<
     Defaulted<Version, FirstVersion>,
-    (
-        Integer<'a>,
-        (
-            AlgorithmIdentifier<'a>,
-            (
-                Name<'a>,
-                (
-                    Validity,
-                    (
-                        Name<'a>,
-                        (
-                            SubjectPublicKeyInfo<'a>,
-                            (
-                                Option<IssuerUniqueId<'a>>,
-                                (Option<SubjectUniqueId<'a>>, (Option<Extensions<'a>>, ())),
-                            ),
-                        ),
-                    ),
-                ),
-            ),
-        ),
-    ),
-);
+    Integer<'a>,
+    AlgorithmIdentifier<'a>,
+    Name<'a>,
+    Validity,
+    Name<'a>,
+    SubjectPublicKeyInfo<'a>,
+    Option<IssuerUniqueId<'a>>,
+    Option<SubjectUniqueId<'a>>,
+    Option<Extensions<'a>>,
+>;
 
 impl HasKind for TbsCertificate<'_> {
     type Kind = FieldsKind;

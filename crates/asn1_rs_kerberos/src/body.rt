@@ -3,7 +3,8 @@ ghost use Rattle.asn1_rs.specs.Prelude.{MadeOf, refl, struct_of};
 
 use crate::{EncryptedData, HostAddress, PrincipalName, Ticket, Under};
 use asn1_rs::author::{
-    Fields, FieldsKind, HasKind, HasReader, LawfulStruct, ReadsFields, ReadsRow, Row, StructReader,
+    Fields, FieldsKind, HasKind, HasReader, LawfulStruct, ReadsFields, ReadsRow, Row, Row12,
+    StructReader,
 };
 use asn1_rs::{
     BitString, DerParser, Error, GeneralString, GeneralizedTime, SerializeResult, fields_in_hand,
@@ -43,40 +44,20 @@ pub struct KdcReqBody<'a> {
 }
 
 /// Its fields.
-pub type KdcReqBodyRow<'a> = (
+pub type KdcReqBodyRow<'a> = Row12<
     Under<BitString<'a>, 0>,
-    (
-        Option<Under<PrincipalName<'a>, 1>>,
-        (
-            Under<GeneralString<'a>, 2>,
-            (
-                Option<Under<PrincipalName<'a>, 3>>,
-                (
-                    Option<Under<GeneralizedTime, 4>>,
-                    (
-                        Under<GeneralizedTime, 5>,
-                        (
-                            Option<Under<GeneralizedTime, 6>>,
-                            (
-                                Under<u32, 7>,
-                                (
-                                    Under<Vec<i32>, 8>,
-                                    (
-                                        Option<Under<Vec<HostAddress<'a>>, 9>>,
-                                        (
-                                            Option<Under<EncryptedData<'a>, 10>>,
-                                            (Option<Under<Vec<Ticket<'a>>, 11>>, ()),
-                                        ),
-                                    ),
-                                ),
-                            ),
-                        ),
-                    ),
-                ),
-            ),
-        ),
-    ),
-);
+    Option<Under<PrincipalName<'a>, 1>>,
+    Under<GeneralString<'a>, 2>,
+    Option<Under<PrincipalName<'a>, 3>>,
+    Option<Under<GeneralizedTime, 4>>,
+    Under<GeneralizedTime, 5>,
+    Option<Under<GeneralizedTime, 6>>,
+    Under<u32, 7>,
+    Under<Vec<i32>, 8>,
+    Option<Under<Vec<HostAddress<'a>>, 9>>,
+    Option<Under<EncryptedData<'a>, 10>>,
+    Option<Under<Vec<Ticket<'a>>, 11>>,
+>;
 
 impl HasKind for KdcReqBody<'_> {
     type Kind = FieldsKind;

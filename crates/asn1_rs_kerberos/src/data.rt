@@ -3,7 +3,8 @@ ghost use Rattle.asn1_rs.specs.Prelude.{MadeOf, refl, struct_of};
 
 use crate::Under;
 use asn1_rs::author::{
-    Fields, FieldsKind, HasKind, HasReader, LawfulStruct, ReadsFields, ReadsRow, Row, StructReader,
+    Fields, FieldsKind, HasKind, HasReader, LawfulStruct, ReadsFields, ReadsRow, Row, Row2, Row3,
+    StructReader,
 };
 use asn1_rs::{
     DerParser, Error, OctetString, SerializeResult, fields_in_hand, put_fields, read_fields,
@@ -22,7 +23,7 @@ pub struct PaData<'a> {
 }
 
 /// Its fields.
-pub type PaDataRow<'a> = (Under<i32, 1>, (Under<OctetString<'a>, 2>, ()));
+pub type PaDataRow<'a> = Row2<Under<i32, 1>, Under<OctetString<'a>, 2>>;
 
 impl HasKind for PaData<'_> {
     type Kind = FieldsKind;
@@ -66,7 +67,7 @@ pub struct HostAddress<'a> {
 }
 
 /// Its fields.
-pub type HostAddressRow<'a> = (Under<i32, 0>, (Under<OctetString<'a>, 1>, ()));
+pub type HostAddressRow<'a> = Row2<Under<i32, 0>, Under<OctetString<'a>, 1>>;
 
 impl HasKind for HostAddress<'_> {
     type Kind = FieldsKind;
@@ -112,10 +113,11 @@ pub struct EncryptedData<'a> {
 }
 
 /// Its fields.
-pub type EncryptedDataRow<'a> = (
+pub type EncryptedDataRow<'a> = Row3<
     Under<i32, 0>,
-    (Option<Under<u32, 1>>, (Under<OctetString<'a>, 2>, ())),
-);
+    Option<Under<u32, 1>>,
+    Under<OctetString<'a>, 2>,
+>;
 
 impl HasKind for EncryptedData<'_> {
     type Kind = FieldsKind;

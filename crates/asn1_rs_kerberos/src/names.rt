@@ -3,7 +3,8 @@ ghost use Rattle.asn1_rs.specs.Prelude.{MadeOf, refl, struct_of};
 
 use crate::Under;
 use asn1_rs::author::{
-    Fields, FieldsKind, HasKind, HasReader, LawfulStruct, ReadsFields, ReadsRow, Row, StructReader,
+    Fields, FieldsKind, HasKind, HasReader, LawfulStruct, ReadsFields, ReadsRow, Row, Row2,
+    StructReader,
 };
 use asn1_rs::{
     DerParser, Error, GeneralString, SerializeResult, fields_in_hand, put_fields, read_fields,
@@ -22,7 +23,7 @@ pub struct PrincipalName<'a> {
 }
 
 /// Its fields.
-pub type PrincipalNameRow<'a> = (Under<i32, 0>, (Under<Vec<GeneralString<'a>>, 1>, ()));
+pub type PrincipalNameRow<'a> = Row2<Under<i32, 0>, Under<Vec<GeneralString<'a>>, 1>>;
 
 impl HasKind for PrincipalName<'_> {
     type Kind = FieldsKind;

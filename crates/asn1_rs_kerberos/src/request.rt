@@ -5,7 +5,8 @@ ghost use Rattle.asn1_rs_kerberos.specs.Requests.{IsAsReq, IsNoAsReq};
 
 use crate::{KdcReqBody, PaData, Under};
 use asn1_rs::author::{
-    Fields, FieldsKind, HasKind, HasReader, LawfulStruct, ReadsFields, ReadsRow, Row, StructReader,
+    Fields, FieldsKind, HasKind, HasReader, LawfulStruct, ReadsFields, ReadsRow, Row, Row4,
+    StructReader,
 };
 use asn1_rs::laws::Grammar;
 use asn1_rs::{
@@ -33,16 +34,12 @@ pub struct KdcReq<'a> {
 }
 
 /// Its fields.
-pub type KdcReqRow<'a> = (
+pub type KdcReqRow<'a> = Row4<
     Under<u8, 1>,
-    (
-        Under<u8, 2>,
-        (
-            Option<Under<Vec<PaData<'a>>, 3>>,
-            (Under<KdcReqBody<'a>, 4>, ()),
-        ),
-    ),
-);
+    Under<u8, 2>,
+    Option<Under<Vec<PaData<'a>>, 3>>,
+    Under<KdcReqBody<'a>, 4>,
+>;
 
 impl HasKind for KdcReq<'_> {
     type Kind = FieldsKind;

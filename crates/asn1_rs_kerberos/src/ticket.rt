@@ -3,7 +3,8 @@ ghost use Rattle.asn1_rs.specs.Prelude.{MadeOf, refl, struct_of};
 
 use crate::{EncryptedData, PrincipalName, Under};
 use asn1_rs::author::{
-    Fields, FieldsKind, HasKind, HasReader, LawfulStruct, ReadsFields, ReadsRow, Row, StructReader,
+    Fields, FieldsKind, HasKind, HasReader, LawfulStruct, ReadsFields, ReadsRow, Row, Row4,
+    StructReader,
 };
 use asn1_rs::{
     ApplicationExplicit, DerParser, Error, GeneralString, SerializeResult, fields_in_hand,
@@ -30,16 +31,12 @@ pub struct TicketFields<'a> {
 }
 
 /// Its fields.
-pub type TicketRow<'a> = (
+pub type TicketRow<'a> = Row4<
     Under<u8, 0>,
-    (
-        Under<GeneralString<'a>, 1>,
-        (
-            Under<PrincipalName<'a>, 2>,
-            (Under<EncryptedData<'a>, 3>, ()),
-        ),
-    ),
-);
+    Under<GeneralString<'a>, 1>,
+    Under<PrincipalName<'a>, 2>,
+    Under<EncryptedData<'a>, 3>,
+>;
 
 impl HasKind for TicketFields<'_> {
     type Kind = FieldsKind;

@@ -6,7 +6,7 @@ ghost use Rattle.asn1_rs.specs.Structs.DefaultTypes.{default_bool, default_impli
 use crate::Octets;
 use asn1_rs::author::{
     DefaultOf, Fields, FieldsKind, HasKind, HasReader, LawfulStruct, ReadsFieldsByBer, ReadsRow,
-    Row, StructReader,
+    Row, Row2, Row4, StructReader,
 };
 use asn1_rs::{
     BerParser, Defaulted, Error, OctetString, SerializeResult, TaggedImplicit, fields_in_hand,
@@ -26,7 +26,7 @@ pub struct AttributeValueAssertion<'a> {
 }
 
 /// Its fields.
-pub type AttributeValueRow<'a> = (OctetString<'a>, (OctetString<'a>, ()));
+pub type AttributeValueRow<'a> = Row2<OctetString<'a>, OctetString<'a>>;
 
 impl HasKind for AttributeValueAssertion<'_> {
     type Kind = FieldsKind;
@@ -98,13 +98,12 @@ impl DefaultOf<DnAttributes> for NotOfTheName {
 }
 
 /// Its fields.
-pub type MatchingRuleRow<'a> = (
+pub type MatchingRuleRow<'a> = Row4<
     Option<Octets<'a, 1>>,
-    (
-        Option<Octets<'a, 2>>,
-        (Octets<'a, 3>, (Defaulted<DnAttributes, NotOfTheName>, ())),
-    ),
-);
+    Option<Octets<'a, 2>>,
+    Octets<'a, 3>,
+    Defaulted<DnAttributes, NotOfTheName>,
+>;
 
 impl HasKind for MatchingRuleAssertion<'_> {
     type Kind = FieldsKind;

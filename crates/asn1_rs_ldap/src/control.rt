@@ -3,7 +3,8 @@ ghost use Rattle.asn1_rs.specs.Prelude.{MadeOf};
 ghost use Rattle.asn1_rs_ldap.specs.Controls.{control_laws};
 
 use asn1_rs::author::{
-    Fields, FieldsKind, HasKind, HasReader, LawfulStruct, ReadsFieldsByBer, ReadsRow, StructReader,
+    Fields, FieldsKind, HasKind, HasReader, LawfulStruct, ReadsFieldsByBer, ReadsRow, Row3,
+    StructReader,
 };
 use asn1_rs::{
     BerParser, DefaultFalse, Defaulted, Error, OctetString, SerializeResult, fields_in_hand,
@@ -25,10 +26,11 @@ pub struct Control<'a> {
 }
 
 /// Its fields.
-pub type ControlRow<'a> = (
+pub type ControlRow<'a> = Row3<
     OctetString<'a>,
-    (Defaulted<bool, DefaultFalse>, (Option<OctetString<'a>>, ())),
-);
+    Defaulted<bool, DefaultFalse>,
+    Option<OctetString<'a>>,
+>;
 
 impl HasKind for Control<'_> {
     type Kind = FieldsKind;

@@ -5,7 +5,8 @@ ghost use Rattle.asn1_rs_ldap.specs.Messages.{message_laws};
 use crate::control::Control;
 use crate::operation::Operation;
 use asn1_rs::author::{
-    Fields, FieldsKind, HasKind, HasReader, LawfulStruct, ReadsFieldsByBer, ReadsRow, StructReader,
+    Fields, FieldsKind, HasKind, HasReader, LawfulStruct, ReadsFieldsByBer, ReadsRow, Row3,
+    StructReader,
 };
 use asn1_rs::laws::Grammar;
 use asn1_rs::{
@@ -31,7 +32,7 @@ pub struct Message<'a> {
 pub type Controls<'a> = TaggedImplicit<Vec<Control<'a>>, Error, 0>;
 
 /// Its fields.
-pub type MessageRow<'a> = (u32, (Operation<'a>, (Option<Controls<'a>>, ())));
+pub type MessageRow<'a> = Row3<u32, Operation<'a>, Option<Controls<'a>>>;
 
 impl HasKind for Message<'_> {
     type Kind = FieldsKind;

@@ -4,7 +4,8 @@ ghost use Rattle.asn1_rs_ldap.specs.Searches.{search_laws};
 
 use crate::Filter;
 use asn1_rs::author::{
-    Fields, FieldsKind, HasKind, HasReader, LawfulStruct, ReadsFieldsByBer, ReadsRow, StructReader,
+    Fields, FieldsKind, HasKind, HasReader, LawfulStruct, ReadsFieldsByBer, ReadsRow, Row8,
+    StructReader,
 };
 use asn1_rs::{
     BerParser, Enumerated, Error, OctetString, SerializeResult, fields_in_hand, put_fields,
@@ -36,16 +37,16 @@ pub struct SearchRequest<'a> {
 }
 
 /// Its fields.
-pub type SearchRow<'a> = (
+pub type SearchRow<'a> = Row8<
     OctetString<'a>,
-    (
-        Enumerated,
-        (
-            Enumerated,
-            (u32, (u32, (bool, (Filter<'a>, (Vec<OctetString<'a>>, ()))))),
-        ),
-    ),
-);
+    Enumerated,
+    Enumerated,
+    u32,
+    u32,
+    bool,
+    Filter<'a>,
+    Vec<OctetString<'a>>,
+>;
 
 impl HasKind for SearchRequest<'_> {
     type Kind = FieldsKind;

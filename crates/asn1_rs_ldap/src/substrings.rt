@@ -7,7 +7,7 @@ use crate::Octets;
 use asn1_rs::author::{
     Arms, ChoiceKind, ChoiceReader, Fields, FieldsKind, HasKind, HasReader, LawfulChoice,
     LawfulStruct, LawfulType, Never, OfArms, Or, OrTagged, ReadsChoiceByBer, ReadsFieldsByBer,
-    ReadsRow, Row, StructReader, UsesArm, choice_of_element,
+    ReadsRow, Row, Row2, StructReader, UsesArm, choice_of_element,
 };
 use asn1_rs::{
     Any, BerParser, DynTagged, Error, OctetString, SerializeResult, Tag, fields_in_hand,
@@ -117,7 +117,7 @@ pub struct SubstringFilter<'a> {
 }
 
 /// Its fields.
-pub type SubstringFilterRow<'a> = (OctetString<'a>, (Vec<Substring<'a>>, ()));
+pub type SubstringFilterRow<'a> = Row2<OctetString<'a>, Vec<Substring<'a>>>;
 
 impl HasKind for SubstringFilter<'_> {
     type Kind = FieldsKind;

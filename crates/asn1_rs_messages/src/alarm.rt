@@ -3,7 +3,7 @@ ghost use Rattle.asn1_rs.specs.Prelude.{MadeOf, ReadsByBer, ReadsByDer, refl, se
 
 use asn1_rs::author::{
     AlwaysDerBy, Fields, FieldsKind, HasKind, HasReader, LawfulStruct, ReadsFields,
-    ReadsFieldsByBer, ReadsRow, Row, StructReader,
+    ReadsFieldsByBer, ReadsRow, Row, Row4, StructReader,
 };
 use asn1_rs::laws::{AlwaysDer, Grammar};
 use asn1_rs::{
@@ -31,7 +31,7 @@ pub struct Alarm {
 pub type Muted = TaggedExplicit<bool, Error, 0>;
 
 /// Its fields.
-pub type AlarmRow = (u8, (Option<Muted>, (Option<bool>, (Vec<u16>, ()))));
+pub type AlarmRow = Row4<u8, Option<Muted>, Option<bool>, Vec<u16>>;
 
 impl HasKind for Alarm {
     type Kind = FieldsKind;

@@ -4,7 +4,7 @@ ghost use Rattle.asn1_rs.specs.Prelude.{MadeOf, ReadsByBer, ReadsByDer, refl, se
 
 use asn1_rs::author::{
     Fields, FieldsKind, HasKind, HasReader, LawfulStruct, OfRow, ReadsFields, ReadsFieldsByBer,
-    ReadsRow, Row, StructReader, struct_by_ber, struct_by_der,
+    ReadsRow, Row, Row2, StructReader, struct_by_ber, struct_by_der,
 };
 use asn1_rs::laws::Grammar;
 use asn1_rs::{
@@ -28,7 +28,7 @@ pub struct ContentInfo<'a> {
 pub type Content<'a> = TaggedExplicit<Any<'a>, Error, 0>;
 
 /// Its fields.
-pub type ContentRow<'a> = (Oid<'a>, (Option<Content<'a>>, ()));
+pub type ContentRow<'a> = Row2<Oid<'a>, Option<Content<'a>>>;
 
 impl HasKind for ContentInfo<'_> {
     type Kind = FieldsKind;
@@ -95,7 +95,7 @@ pub struct Attribute<'a> {
 }
 
 /// Its fields.
-pub type AttributeRow<'a> = (Oid<'a>, (SetOf<Any<'a>>, ()));
+pub type AttributeRow<'a> = Row2<Oid<'a>, SetOf<Any<'a>>>;
 
 impl HasKind for Attribute<'_> {
     type Kind = FieldsKind;

@@ -6,7 +6,7 @@ ghost use Rattle.asn1_rs.specs.Prelude.{struct_of, WritesStrict};
 
 use asn1_rs::author::{
     Fields, FieldsKind, HasKind, HasReader, LawfulStruct, ReadsFields, ReadsFieldsByBer, ReadsRow,
-    Row, StructReader,
+    Row, Row3, StructReader,
 };
 use asn1_rs::laws::Grammar;
 use asn1_rs::{
@@ -30,10 +30,7 @@ pub struct Extension<'a> {
 }
 
 /// Its fields.
-pub type ExtensionRow<'a> = (
-    Oid<'a>,
-    (Defaulted<bool, DefaultFalse>, (OctetString<'a>, ())),
-);
+pub type ExtensionRow<'a> = Row3<Oid<'a>, Defaulted<bool, DefaultFalse>, OctetString<'a>>;
 
 impl HasKind for Extension<'_> {
     type Kind = FieldsKind;

@@ -9,7 +9,7 @@ ghost use Rattle.asn1_rs_messages.specs.Hashed.{sha256_octets};
 use crate::public_key::AlgorithmIdentifier;
 use asn1_rs::author::{
     DefaultOf, Fields, FieldsKind, HasKind, HasReader, KeyType, LawfulStruct, OfRow, ReadsFields,
-    ReadsRow, Row, StructReader, struct_by_der,
+    ReadsRow, Row, Row2, Row3, StructReader, struct_by_der,
 };
 use asn1_rs::laws::Grammar;
 use asn1_rs::{
@@ -66,10 +66,11 @@ impl<'a> DefaultOf<AlgorithmIdentifier<'a>> for Sha256 {
 }
 
 /// Its fields.
-pub type HashedRow<'a> = (
+pub type HashedRow<'a> = Row3<
     Defaulted<AlgorithmIdentifier<'a>, Sha256>,
-    (OctetString<'a>, (Option<IssuerSerial<'a>>, ())),
-);
+    OctetString<'a>,
+    Option<IssuerSerial<'a>>,
+>;
 
 impl HasKind for HashedCertificate<'_> {
     type Kind = FieldsKind;
@@ -131,7 +132,7 @@ pub struct IssuerSerial<'a> {
 }
 
 /// Its fields.
-pub type IssuerRow<'a> = (Vec<Any<'a>>, (Integer<'a>, ()));
+pub type IssuerRow<'a> = Row2<Vec<Any<'a>>, Integer<'a>>;
 
 impl HasKind for IssuerSerial<'_> {
     type Kind = FieldsKind;

@@ -5,7 +5,7 @@ ghost use Rattle.asn1_rs.specs.Prelude.{struct_type, WritesStrict};
 
 use asn1_rs::author::{
     Fields, FieldsKind, HasKind, HasReader, KeyType, LawfulStruct, MemberRow, ReadsFields,
-    ReadsRow, Row, StructReader,
+    ReadsRow, Row, Row2, StructReader,
 };
 use asn1_rs::laws::{Grammar, LawfulMember};
 use asn1_rs::{
@@ -26,7 +26,7 @@ pub struct AlgorithmIdentifier<'a> {
 }
 
 /// Its fields.
-pub type AlgorithmRow<'a> = (Oid<'a>, (Option<Any<'a>>, ()));
+pub type AlgorithmRow<'a> = Row2<Oid<'a>, Option<Any<'a>>>;
 
 impl HasKind for AlgorithmIdentifier<'_> {
     type Kind = FieldsKind;
@@ -82,7 +82,7 @@ pub struct SubjectPublicKeyInfo<'a> {
 }
 
 /// Its fields.
-pub type PublicKeyRow<'a> = (AlgorithmIdentifier<'a>, (BitString<'a>, ()));
+pub type PublicKeyRow<'a> = Row2<AlgorithmIdentifier<'a>, BitString<'a>>;
 
 impl HasKind for SubjectPublicKeyInfo<'_> {
     type Kind = FieldsKind;

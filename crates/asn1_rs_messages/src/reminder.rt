@@ -4,7 +4,7 @@ ghost use Rattle.asn1_rs.specs.Prelude.{MadeOf, ReadsByBer, ReadsByDer, refl, se
 use crate::alarm::Muted;
 use asn1_rs::author::{
     AlwaysDerBy, Fields, FieldsKind, HasKind, HasReader, LawfulStruct, ReadsFields,
-    ReadsFieldsByBer, ReadsRow, Row, StructReader,
+    ReadsFieldsByBer, ReadsRow, Row, Row4, StructReader,
 };
 use asn1_rs::laws::{AlwaysDer, Grammar};
 use asn1_rs::{
@@ -30,13 +30,7 @@ pub struct Reminder {
 }
 
 /// Its fields.
-pub type ReminderRow = (
-    u8,
-    (
-        Option<Muted>,
-        (Defaulted<bool, DefaultFalse>, (Vec<u16>, ())),
-    ),
-);
+pub type ReminderRow = Row4<u8, Option<Muted>, Defaulted<bool, DefaultFalse>, Vec<u16>>;
 
 impl HasKind for Reminder {
     type Kind = FieldsKind;

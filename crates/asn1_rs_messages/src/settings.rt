@@ -6,7 +6,7 @@ ghost use Rattle.asn1_rs.specs.Structs.DefaultTypes.{default_explicit, default_i
 
 use asn1_rs::author::{
     AlwaysDerBy, DefaultOf, Fields, FieldsKind, HasKind, HasReader, LawfulStruct, LawfulType,
-    ReadsFields, ReadsFieldsByBer, ReadsRow, Row, StructReader,
+    ReadsFields, ReadsFieldsByBer, ReadsRow, Row, Row5, StructReader,
 };
 use asn1_rs::laws::Grammar;
 use asn1_rs::{
@@ -130,19 +130,13 @@ impl DefaultOf<Limit> for Hundred {
 }
 
 /// Its fields.
-pub type SettingsRow = (
+pub type SettingsRow = Row5<
     Defaulted<Version, FirstVersion>,
-    (
-        Defaulted<i32, MinusOne>,
-        (
-            Defaulted<Enumerated, Plain>,
-            (
-                Defaulted<Vec<u16>, NoRooms>,
-                (Defaulted<Limit, Hundred>, ()),
-            ),
-        ),
-    ),
-);
+    Defaulted<i32, MinusOne>,
+    Defaulted<Enumerated, Plain>,
+    Defaulted<Vec<u16>, NoRooms>,
+    Defaulted<Limit, Hundred>,
+>;
 
 impl HasKind for Settings {
     type Kind = FieldsKind;

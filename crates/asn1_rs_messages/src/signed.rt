@@ -4,7 +4,7 @@ ghost use Rattle.asn1_rs.specs.Prelude.{struct_of, struct_type, WritesStrict};
 
 use asn1_rs::author::{
     Fields, FieldsKind, HasKind, HasReader, KeyType, LawfulStruct, MemberRow, ReadsFields,
-    ReadsFieldsByBer, ReadsRow, Row, StructReader,
+    ReadsFieldsByBer, ReadsRow, Row, Row3, StructReader,
 };
 use asn1_rs::laws::{Grammar, LawfulMember};
 use asn1_rs::{
@@ -34,7 +34,7 @@ pub type Signature<'a> = TaggedParser<'a, Explicit, OctetString<'a>, Error>;
 pub type Note<'a> = TaggedParser<'a, Implicit, OctetString<'a>, Error>;
 
 /// Its fields.
-pub type SignedRow<'a> = (u32, (Signature<'a>, (Option<Note<'a>>, ())));
+pub type SignedRow<'a> = Row3<u32, Signature<'a>, Option<Note<'a>>>;
 
 impl HasKind for Signed<'_> {
     type Kind = FieldsKind;

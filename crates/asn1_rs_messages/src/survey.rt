@@ -4,7 +4,7 @@ ghost use Rattle.asn1_rs.specs.Prelude.{MadeOf, ReadsByBer, ReadsByDer, refl, se
 use crate::Measurement;
 use asn1_rs::author::{
     Fields, FieldsKind, HasKind, HasReader, LawfulStruct, ReadsFields, ReadsFieldsByBer, ReadsRow,
-    Row, StructReader,
+    Row, Row4, StructReader,
 };
 use asn1_rs::laws::Grammar;
 use asn1_rs::{
@@ -30,10 +30,7 @@ pub struct Survey<'a> {
 }
 
 /// Its fields.
-pub type SurveyRow<'a> = (
-    BmpString<'a>,
-    (Boolean, (HashSet<u32>, (BTreeSet<Measurement>, ()))),
-);
+pub type SurveyRow<'a> = Row4<BmpString<'a>, Boolean, HashSet<u32>, BTreeSet<Measurement>>;
 
 impl HasKind for Survey<'_> {
     type Kind = FieldsKind;

@@ -5,7 +5,7 @@ ghost use Rattle.asn1_rs.specs.Prelude.{MadeOf, ReadsByBer, ReadsByDer, refl, se
 use crate::time::{TaggedTime, Time};
 use asn1_rs::author::{
     Fields, FieldsKind, HasKind, HasReader, LawfulStruct, ReadsFields, ReadsFieldsByBer, ReadsRow,
-    Row, StructReader,
+    Row, Row4, StructReader,
 };
 use asn1_rs::laws::Grammar;
 use asn1_rs::{
@@ -30,7 +30,7 @@ pub struct Updates {
 }
 
 /// Its fields.
-pub type UpdatesRow = (Time, (Option<Time>, (Vec<Time>, (Option<TaggedTime>, ()))));
+pub type UpdatesRow = Row4<Time, Option<Time>, Vec<Time>, Option<TaggedTime>>;
 
 impl HasKind for Updates {
     type Kind = FieldsKind;

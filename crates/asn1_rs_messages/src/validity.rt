@@ -4,7 +4,7 @@ ghost use Rattle.asn1_rs.specs.Prelude.{MadeOf, ReadsByBer, ReadsByDer, refl, se
 use crate::time::Time;
 use asn1_rs::author::{
     Fields, FieldsKind, HasKind, HasReader, LawfulStruct, ReadsFields, ReadsFieldsByBer, ReadsRow,
-    Row, StructReader,
+    Row, Row2, StructReader,
 };
 use asn1_rs::laws::Grammar;
 use asn1_rs::{
@@ -25,7 +25,7 @@ pub struct Validity {
 }
 
 /// Its fields.
-pub type ValidityRow = (Time, (Time, ()));
+pub type ValidityRow = Row2<Time, Time>;
 
 impl HasKind for Validity {
     type Kind = FieldsKind;

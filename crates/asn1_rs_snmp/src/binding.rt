@@ -4,7 +4,7 @@ ghost use Rattle.asn1_rs_snmp.specs.Messages.{var_bind_laws};
 
 use crate::value::BindingValue;
 use asn1_rs::author::{
-    Fields, FieldsKind, HasKind, HasReader, LawfulStruct, ReadsFieldsByBer, ReadsRow, Row,
+    Fields, FieldsKind, HasKind, HasReader, LawfulStruct, ReadsFieldsByBer, ReadsRow, Row, Row2,
     StructReader,
 };
 use asn1_rs::laws::Grammar;
@@ -26,7 +26,7 @@ pub struct VarBind<'a> {
 }
 
 /// Its fields.
-pub type VarBindRow<'a> = (Oid<'a>, (BindingValue<'a>, ()));
+pub type VarBindRow<'a> = Row2<Oid<'a>, BindingValue<'a>>;
 
 impl HasKind for VarBind<'_> {
     type Kind = FieldsKind;

@@ -4,7 +4,7 @@ ghost use Rattle.asn1_rs.specs.Prelude.{WritesStrict};
 
 use crate::pdus::Pdus;
 use asn1_rs::author::{
-    Fields, FieldsKind, HasKind, HasReader, LawfulStruct, ReadsFieldsByBer, ReadsRow, Row,
+    Fields, FieldsKind, HasKind, HasReader, LawfulStruct, ReadsFieldsByBer, ReadsRow, Row, Row3,
     StructReader,
 };
 use asn1_rs::laws::Grammar;
@@ -28,7 +28,7 @@ pub struct Message<'a> {
 }
 
 /// Its fields.
-pub type MessageRow<'a> = (u32, (OctetString<'a>, (Pdus<'a>, ())));
+pub type MessageRow<'a> = Row3<u32, OctetString<'a>, Pdus<'a>>;
 
 impl HasKind for Message<'_> {
     type Kind = FieldsKind;

@@ -4,7 +4,7 @@ ghost use Rattle.asn1_rs_snmp.specs.Pdus.{bulk_pdu_laws, pdu_laws};
 
 use crate::binding::VarBind;
 use asn1_rs::author::{
-    Fields, FieldsKind, HasKind, HasReader, LawfulStruct, OfRow, ReadsFieldsByBer, ReadsRow,
+    Fields, FieldsKind, HasKind, HasReader, LawfulStruct, OfRow, ReadsFieldsByBer, ReadsRow, Row4,
     StructReader, struct_by_ber,
 };
 use asn1_rs::{BerParser, Error, SerializeResult, fields_in_hand, put_fields};
@@ -26,7 +26,7 @@ pub struct Pdu<'a> {
 }
 
 /// Its fields.
-pub type PduRow<'a> = (i32, (u8, (u32, (Vec<VarBind<'a>>, ()))));
+pub type PduRow<'a> = Row4<i32, u8, u32, Vec<VarBind<'a>>>;
 
 impl HasKind for Pdu<'_> {
     type Kind = FieldsKind;
@@ -91,7 +91,7 @@ pub struct BulkPdu<'a> {
 }
 
 /// Its fields.
-pub type BulkPduRow<'a> = (i32, (u32, (u32, (Vec<VarBind<'a>>, ()))));
+pub type BulkPduRow<'a> = Row4<i32, u32, u32, Vec<VarBind<'a>>>;
 
 impl HasKind for BulkPdu<'_> {
     type Kind = FieldsKind;
