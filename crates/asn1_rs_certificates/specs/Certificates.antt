@@ -4,11 +4,30 @@ use Rattle.std.specs.Prelude.{IsSome, option_map}
 use Rattle.asn1_rs.specs.Prelude.{Error, IsInvalidValue}
 use Rattle.asn1_rs.specs.Any.Value.{element_of}
 use Rattle.asn1_rs.specs.Oid.{oid_value}
+use Rattle.asn1_rs_certificates.specs.declared.added.Added.{Added}
 use Rattle.asn1_rs_certificates.specs.declared.certificate.Certificate.{Certificate}
+use Rattle.asn1_rs_certificates.specs.declared.holder.Holder.{Holder}
 use Rattle.asn1_rs_certificates.specs.declared.signed.TbsCertificate.{TbsCertificate}
 use Rattle.asn1_rs_messages.specs.declared.public_key.AlgorithmIdentifier.{AlgorithmIdentifier}
 use Rattle.asn1_rs_messages.specs.declared.time.Time.{Time}
 use Rattle.asn1_rs_messages.specs.declared.time.Time.TheVariants.{Utc, General}
+
+-- the last three fields of what is signed
+abbrev pub added_of : TbsCertificate → Added
+added_of x = record {
+  issuer_unique_id = x.issuer_unique_id;
+  subject_unique_id = x.subject_unique_id;
+  extensions = x.extensions;
+}
+
+-- its fields from the validity on
+abbrev pub holder_of : TbsCertificate → Holder
+holder_of x = record {
+  validity = x.validity;
+  subject = x.subject;
+  subject_public_key_info = x.subject_public_key_info;
+  added = added_of x;
+}
 
 -- The year of a time. The digits 50 to 99 of a UTCTime are those of the years 1950 to 1999. The digits below are those
 -- of the years 2000 to 2049.

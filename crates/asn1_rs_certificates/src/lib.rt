@@ -2,7 +2,9 @@
 //! and borrowed from the octets. They are written as their one strict encoding.
 #![tactic(auto)]
 
+mod added;
 mod certificate;
+mod holder;
 mod names;
 mod profile;
 mod signed;

@@ -1,16 +1,19 @@
-//! What is signed (RFC 5280, 4.1.2).
+//! What is signed (RFC 5280, 4.1.2). A row of ten fields is more than the checker takes at once. So the fields from the
+//! validity on stand in `holder`, and the last three in `added`.
 ghost use Rattle.asn1_rs.specs.Prelude.{its_own_type, MadeOf, refl, struct_of};
 ghost use Rattle.std.proofs.Common.{lit<};
 ghost use Rattle.asn1_rs.specs.Structs.DefaultTypes.{default_explicit, default_unsigned};
+ghost use Rattle.asn1_rs_certificates.specs.Certificates.{holder_of};
 
 use crate::Name;
+use crate::holder::{Holder, HolderOf};
 use asn1_rs::author::{
-    DefaultOf, Fields, FieldsKind, HasKind, HasReader, LawfulStruct, ReadsFields, ReadsRow, Row,
-    Row10, StructReader,
+    BorrowedRow, DefaultOf, Fields, FieldsKind, HasKind, HasReader, LawfulStruct, ReadsFields,
+    ReadsRow, Row, StructReader, row_by_der,
 };
 use asn1_rs::{
     BitString, Defaulted, DerParser, Error, Integer, SerializeResult, TaggedExplicit,
-    TaggedImplicit, fields_in_hand, put_fields, read_fields,
+    TaggedImplicit,
 };
 use asn1_rs_messages::{AlgorithmIdentifier, Extension, SubjectPublicKeyInfo, Validity};
 use std::alloc::Global;
@@ -72,19 +75,14 @@ impl DefaultOf<Version> for FirstVersion {
     ghost of_type = { its_own_type refl };
 }
 
-/// Its fields.
-pub type TbsCertificateRow<'a> = Row10<
+/// Its fields: who signed it, and the others.
+pub type TbsCertificateRow<'a> = (
     Defaulted<Version, FirstVersion>,
-    Integer<'a>,
-    AlgorithmIdentifier<'a>,
-    Name<'a>,
-    Validity,
-    Name<'a>,
-    SubjectPublicKeyInfo<'a>,
-    Option<IssuerUniqueId<'a>>,
-    Option<SubjectUniqueId<'a>>,
-    Option<Extensions<'a>>,
->;
+    (
+        Integer<'a>,
+        (AlgorithmIdentifier<'a>, (Name<'a>, Holder<'a>)),
+    ),
+);
 
 impl HasKind for TbsCertificate<'_> {
     type Kind = FieldsKind;
@@ -95,21 +93,17 @@ impl HasReader for TbsCertificate<'_> {
 }
 
 impl<'a> LawfulStruct for TbsCertificate<'a> {
-    ghost laws = { struct_of (λ x. (x.version, (x.serial_number, (x.signature, (x.issuer, (x.validity, (x.subject, (x.subject_public_key_info, (x.issuer_unique_id, (x.subject_unique_id, (x.extensions, tt)))))))))))
+    ghost laws = { struct_of (λ x. (x.version, (x.serial_number, (x.signature, (x.issuer, holder_of x)))))
         ⟦<TbsCertificateRow<'a> as Row>⟧.row_laws refl };
 
     fn put_row(&self, fields: &mut Fields) -> SerializeResult<()> {
-        put_fields!(self, fields =>
-            version, serial_number, signature, issuer, validity, subject,
-            subject_public_key_info, issuer_unique_id, subject_unique_id, extensions
-        )
+        let signer = (&self.signature, (&self.issuer, HolderOf(self)));
+        (&self.version, (&self.serial_number, signer)).put_each(fields)
     }
 
     fn row_in_hand(&self) {
-        fields_in_hand!(self =>
-            version, serial_number, signature, issuer, validity, subject,
-            subject_public_key_info, issuer_unique_id, subject_unique_id, extensions
-        )
+        let signer = (&self.signature, (&self.issuer, HolderOf(self)));
+        (&self.version, (&self.serial_number, signer)).each_in_hand()
     }
 }
 
@@ -118,9 +112,23 @@ impl<'a> ReadsFields<'a> for TbsCertificate<'a> {
         ⟦<TbsCertificateRow<'a> as ReadsRow<'a, DerParser>>⟧.row_gives };
 
     fn read_fields(alloc: Global, octets: &'a [u8]) -> Result<TbsCertificate<'a>, Error> {
-        read_fields!(row_by_der, alloc, octets => TbsCertificate {
-            version, serial_number, signature, issuer, validity, subject,
-            subject_public_key_info, issuer_unique_id, subject_unique_id, extensions
-        })
+        match row_by_der::<TbsCertificateRow<'a>>(alloc, octets) {
+            Ok(row) => {
+                let (version, (serial_number, (signature, (issuer, holder)))) = row;
+                Ok(TbsCertificate {
+                    version,
+                    serial_number,
+                    signature,
+                    issuer,
+                    validity: holder.validity,
+                    subject: holder.subject,
+                    subject_public_key_info: holder.subject_public_key_info,
+                    issuer_unique_id: holder.added.issuer_unique_id,
+                    subject_unique_id: holder.added.subject_unique_id,
+                    extensions: holder.added.extensions,
+                })
+            }
+            Err(e) => Err(e),
+        }
     }
 }

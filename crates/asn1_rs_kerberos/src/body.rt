@@ -1,15 +1,15 @@
-//! What is asked for (RFC 4120, 5.4.1).
+//! What is asked for (RFC 4120, 5.4.1). A row of twelve fields is more than the checker takes at once. So the last six
+//! fields stand in `asked`.
 ghost use Rattle.asn1_rs.specs.Prelude.{MadeOf, refl, struct_of};
+ghost use Rattle.asn1_rs_kerberos.specs.Requests.{asked_of};
 
+use crate::asked::{Asked, AskedOf};
 use crate::{EncryptedData, HostAddress, PrincipalName, Ticket, Under};
 use asn1_rs::author::{
-    Fields, FieldsKind, HasKind, HasReader, LawfulStruct, ReadsFields, ReadsRow, Row, Row12,
-    StructReader,
+    BorrowedRow, Fields, FieldsKind, HasKind, HasReader, LawfulStruct, ReadsFields, ReadsRow, Row,
+    StructReader, row_by_der,
 };
-use asn1_rs::{
-    BitString, DerParser, Error, GeneralString, GeneralizedTime, SerializeResult, fields_in_hand,
-    put_fields, read_fields,
-};
+use asn1_rs::{BitString, DerParser, Error, GeneralString, GeneralizedTime, SerializeResult};
 use std::alloc::Global;
 
 /// What is asked for.
@@ -43,21 +43,23 @@ pub struct KdcReqBody<'a> {
     pub additional_tickets: Option<Under<Vec<Ticket<'a>>, 11>>,
 }
 
-/// Its fields.
-pub type KdcReqBodyRow<'a> = Row12<
+/// Its fields: who asks for which service and until when, and the others.
+pub type KdcReqBodyRow<'a> = (
     Under<BitString<'a>, 0>,
-    Option<Under<PrincipalName<'a>, 1>>,
+    (Option<Under<PrincipalName<'a>, 1>>, TimedRow<'a>),
+);
+
+/// The fields from the realm on: the service, and until when.
+type TimedRow<'a> = (
     Under<GeneralString<'a>, 2>,
-    Option<Under<PrincipalName<'a>, 3>>,
-    Option<Under<GeneralizedTime, 4>>,
-    Under<GeneralizedTime, 5>,
-    Option<Under<GeneralizedTime, 6>>,
-    Under<u32, 7>,
-    Under<Vec<i32>, 8>,
-    Option<Under<Vec<HostAddress<'a>>, 9>>,
-    Option<Under<EncryptedData<'a>, 10>>,
-    Option<Under<Vec<Ticket<'a>>, 11>>,
->;
+    (
+        Option<Under<PrincipalName<'a>, 3>>,
+        (
+            Option<Under<GeneralizedTime, 4>>,
+            (Under<GeneralizedTime, 5>, Asked<'a>),
+        ),
+    ),
+);
 
 impl HasKind for KdcReqBody<'_> {
     type Kind = FieldsKind;
@@ -68,21 +70,17 @@ impl HasReader for KdcReqBody<'_> {
 }
 
 impl<'a> LawfulStruct for KdcReqBody<'a> {
-    ghost laws = { struct_of (λ x. (x.kdc_options, (x.cname, (x.realm, (x.sname, (x.from, (x.till, (x.rtime, (x.nonce, (x.etype, (x.addresses, (x.enc_authorization_data, (x.additional_tickets, tt)))))))))))))
+    ghost laws = { struct_of (λ x. (x.kdc_options, (x.cname, (x.realm, (x.sname, (x.from, (x.till, asked_of x)))))))
         ⟦<KdcReqBodyRow<'a> as Row>⟧.row_laws refl };
 
     fn put_row(&self, fields: &mut Fields) -> SerializeResult<()> {
-        put_fields!(self, fields =>
-            kdc_options, cname, realm, sname, from, till, rtime, nonce, etype, addresses,
-            enc_authorization_data, additional_tickets
-        )
+        let timed = (&self.sname, (&self.from, (&self.till, AskedOf(self))));
+        (&self.kdc_options, (&self.cname, (&self.realm, timed))).put_each(fields)
     }
 
     fn row_in_hand(&self) {
-        fields_in_hand!(self =>
-            kdc_options, cname, realm, sname, from, till, rtime, nonce, etype, addresses,
-            enc_authorization_data, additional_tickets
-        )
+        let timed = (&self.sname, (&self.from, (&self.till, AskedOf(self))));
+        (&self.kdc_options, (&self.cname, (&self.realm, timed))).each_in_hand()
     }
 }
 
@@ -91,9 +89,25 @@ impl<'a> ReadsFields<'a> for KdcReqBody<'a> {
         ⟦<KdcReqBodyRow<'a> as ReadsRow<'a, DerParser>>⟧.row_gives };
 
     fn read_fields(alloc: Global, octets: &'a [u8]) -> Result<KdcReqBody<'a>, Error> {
-        read_fields!(row_by_der, alloc, octets => KdcReqBody {
-            kdc_options, cname, realm, sname, from, till, rtime, nonce, etype, addresses,
-            enc_authorization_data, additional_tickets
-        })
+        match row_by_der::<KdcReqBodyRow<'a>>(alloc, octets) {
+            Ok(row) => {
+                let (kdc_options, (cname, (realm, (sname, (from, (till, asked)))))) = row;
+                Ok(KdcReqBody {
+                    kdc_options,
+                    cname,
+                    realm,
+                    sname,
+                    from,
+                    till,
+                    rtime: asked.rtime,
+                    nonce: asked.nonce,
+                    etype: asked.etype,
+                    addresses: asked.addresses,
+                    enc_authorization_data: asked.enc_authorization_data,
+                    additional_tickets: asked.additional_tickets,
+                })
+            }
+            Err(e) => Err(e),
+        }
     }
 }

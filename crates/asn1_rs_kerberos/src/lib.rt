@@ -2,6 +2,7 @@
 //! grammar says, and borrowed from the octets. It is written as its one strict encoding.
 #![tactic(auto)]
 
+mod asked;
 mod body;
 mod data;
 mod names;

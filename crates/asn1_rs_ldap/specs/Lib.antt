@@ -1,3 +1,4 @@
+pub mod Endings
 pub mod Filters
 pub mod Searches
 pub mod Controls

@@ -1,16 +1,18 @@
 //! What a filter asserts of an attribute (RFC 4511, 4.1.6 and 4.5.1.7).
 ghost use Rattle.asn1_rs.specs.Prelude.{its_own_type, MadeOf, refl, struct_of};
 ghost use Rattle.std.proofs.Common.{false};
+ghost use Rattle.asn1_rs_ldap.specs.Endings.{compared_of};
 ghost use Rattle.asn1_rs.specs.Structs.DefaultTypes.{default_bool, default_implicit};
 
 use crate::Octets;
+use crate::matching::{ComparedValue, ComparedValueOf};
 use asn1_rs::author::{
-    DefaultOf, Fields, FieldsKind, HasKind, HasReader, LawfulStruct, ReadsFieldsByBer, ReadsRow,
-    Row, Row2, Row4, StructReader,
+    BorrowedRow, DefaultOf, Fields, FieldsKind, HasKind, HasReader, LawfulStruct, ReadsFieldsByBer,
+    ReadsRow, Row, Row2, StructReader,
 };
 use asn1_rs::{
     BerParser, Defaulted, Error, OctetString, SerializeResult, TaggedImplicit, fields_in_hand,
-    put_fields, read_fields,
+    put_fields,
 };
 use std::alloc::Global;
 
@@ -57,7 +59,13 @@ impl<'a> ReadsFieldsByBer<'a> for AttributeValueAssertion<'a> {
         alloc: Global,
         octets: &'a [u8],
     ) -> Result<AttributeValueAssertion<'a>, Error> {
-        read_fields!(row_by_ber, alloc, octets => AttributeValueAssertion { attribute, value })
+        match row_by_ber::<AttributeValueRow<'a>>(alloc, octets) {
+            Ok(row) => {
+                let (attribute, (value, ())) = row;
+                Ok(AttributeValueAssertion { attribute, value })
+            }
+            Err(e) => Err(e),
+        }
     }
 }
 
@@ -98,12 +106,10 @@ impl DefaultOf<DnAttributes> for NotOfTheName {
 }
 
 /// Its fields.
-pub type MatchingRuleRow<'a> = Row4<
+pub type MatchingRuleRow<'a> = (
     Option<Octets<'a, 1>>,
-    Option<Octets<'a, 2>>,
-    Octets<'a, 3>,
-    Defaulted<DnAttributes, NotOfTheName>,
->;
+    (Option<Octets<'a, 2>>, ComparedValue<'a>),
+);
 
 impl HasKind for MatchingRuleAssertion<'_> {
     type Kind = FieldsKind;
@@ -114,15 +120,15 @@ impl HasReader for MatchingRuleAssertion<'_> {
 }
 
 impl<'a> LawfulStruct for MatchingRuleAssertion<'a> {
-    ghost laws = { struct_of (λ x. (x.rule, (x.attribute, (x.value, (x.dn_attributes, tt)))))
+    ghost laws = { struct_of (λ x. (x.rule, (x.attribute, compared_of x)))
         ⟦<MatchingRuleRow<'a> as Row>⟧.row_laws refl };
 
     fn put_row(&self, fields: &mut Fields) -> SerializeResult<()> {
-        put_fields!(self, fields => rule, attribute, value, dn_attributes)
+        (&self.rule, (&self.attribute, ComparedValueOf(self))).put_each(fields)
     }
 
     fn row_in_hand(&self) {
-        fields_in_hand!(self => rule, attribute, value, dn_attributes)
+        (&self.rule, (&self.attribute, ComparedValueOf(self))).each_in_hand()
     }
 }
 
@@ -134,8 +140,17 @@ impl<'a> ReadsFieldsByBer<'a> for MatchingRuleAssertion<'a> {
         alloc: Global,
         octets: &'a [u8],
     ) -> Result<MatchingRuleAssertion<'a>, Error> {
-        read_fields!(row_by_ber, alloc, octets => MatchingRuleAssertion {
-            rule, attribute, value, dn_attributes
-        })
+        match row_by_ber::<MatchingRuleRow<'a>>(alloc, octets) {
+            Ok(row) => {
+                let (rule, (attribute, compared)) = row;
+                Ok(MatchingRuleAssertion {
+                    rule,
+                    attribute,
+                    value: compared.value,
+                    dn_attributes: compared.dn_attributes,
+                })
+            }
+            Err(e) => Err(e),
+        }
     }
 }

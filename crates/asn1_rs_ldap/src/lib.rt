@@ -14,10 +14,12 @@ mod compared;
 mod control;
 mod filter;
 mod matched;
+mod matching;
 mod message;
 mod operation;
 mod search;
 mod substrings;
+mod wanted;
 
 use asn1_rs::{Error, OctetString, TaggedImplicit};
 pub use assertion::{

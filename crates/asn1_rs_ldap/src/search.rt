@@ -1,16 +1,15 @@
 //! A search (RFC 4511, 4.5.1).
 ghost use Rattle.asn1_rs.specs.Prelude.{MadeOf};
+ghost use Rattle.asn1_rs_ldap.specs.Endings.{wanted_of};
 ghost use Rattle.asn1_rs_ldap.specs.Searches.{search_laws};
 
 use crate::Filter;
+use crate::wanted::{Wanted, WantedOf};
 use asn1_rs::author::{
-    Fields, FieldsKind, HasKind, HasReader, LawfulStruct, ReadsFieldsByBer, ReadsRow, Row8,
-    StructReader,
+    BorrowedRow, Fields, FieldsKind, HasKind, HasReader, LawfulStruct, ReadsFieldsByBer, ReadsRow,
+    StructReader, row_by_ber,
 };
-use asn1_rs::{
-    BerParser, Enumerated, Error, OctetString, SerializeResult, fields_in_hand, put_fields,
-    read_fields,
-};
+use asn1_rs::{BerParser, Enumerated, Error, OctetString, SerializeResult};
 use std::alloc::Global;
 
 /// A search: where it begins, how deep it goes, and what it wants of which entries.
@@ -36,17 +35,11 @@ pub struct SearchRequest<'a> {
     pub attributes: Vec<OctetString<'a>>,
 }
 
-/// Its fields.
-pub type SearchRow<'a> = Row8<
+/// Its fields: where it searches and up to which limits, and what it wants.
+pub type SearchRow<'a> = (
     OctetString<'a>,
-    Enumerated,
-    Enumerated,
-    u32,
-    u32,
-    bool,
-    Filter<'a>,
-    Vec<OctetString<'a>>,
->;
+    (Enumerated, (Enumerated, (u32, (u32, Wanted<'a>)))),
+);
 
 impl HasKind for SearchRequest<'_> {
     type Kind = FieldsKind;
@@ -61,30 +54,47 @@ impl<'a> LawfulStruct for SearchRequest<'a> {
     ghost laws = { search_laws };
 
     fn put_row(&self, fields: &mut Fields) -> SerializeResult<()> {
-        put_fields!(self, fields =>
-            base_object, scope, deref_aliases, size_limit, time_limit, types_only, filter,
-            attributes
+        let limits = (&self.size_limit, (&self.time_limit, WantedOf(self)));
+        (
+            &self.base_object,
+            (&self.scope, (&self.deref_aliases, limits)),
         )
+            .put_each(fields)
     }
 
     fn row_in_hand(&self) {
-        fields_in_hand!(self =>
-            base_object, scope, deref_aliases, size_limit, time_limit, types_only, filter,
-            attributes
+        let limits = (&self.size_limit, (&self.time_limit, WantedOf(self)));
+        (
+            &self.base_object,
+            (&self.scope, (&self.deref_aliases, limits)),
         )
+            .each_in_hand()
     }
 }
 
 #[tactic(auto, unfolding(crate::specs::Searches::search_laws))]
 impl<'a> ReadsFieldsByBer<'a> for SearchRequest<'a> {
     ghost fields_give_by_ber = { MadeOf (λ x.
-        (x.base_object, (x.scope, (x.deref_aliases, (x.size_limit, (x.time_limit, (x.types_only, (x.filter, (x.attributes, tt)))))))))
+        (x.base_object, (x.scope, (x.deref_aliases, (x.size_limit, (x.time_limit, wanted_of x))))))
         ⟦<SearchRow<'a> as ReadsRow<'a, BerParser>>⟧.row_gives };
 
     fn read_fields_by_ber(alloc: Global, octets: &'a [u8]) -> Result<SearchRequest<'a>, Error> {
-        read_fields!(row_by_ber, alloc, octets => SearchRequest {
-            base_object, scope, deref_aliases, size_limit, time_limit, types_only, filter,
-            attributes
-        })
+        match row_by_ber::<SearchRow<'a>>(alloc, octets) {
+            Ok(row) => {
+                let (base_object, (scope, (deref_aliases, limits))) = row;
+                let (size_limit, (time_limit, wanted)) = limits;
+                Ok(SearchRequest {
+                    base_object,
+                    scope,
+                    deref_aliases,
+                    size_limit,
+                    time_limit,
+                    types_only: wanted.types_only,
+                    filter: wanted.filter,
+                    attributes: wanted.attributes,
+                })
+            }
+            Err(e) => Err(e),
+        }
     }
 }
