@@ -1,0 +1,34 @@
+-- Tapes that are made item by item.
+use Rattle.std.specs.Prelude.{ℕ, List, ◌++◌, map}
+use Rattle.asn1_schema.specs.Tape.{Mark, Kept, KeptRow, kept_leaf, kept_row, kept_chosen, kept_none, kept_absent, kept_more, tape_of}
+use Rattle.asn1_schema.specs.Values.{Value, Values, leaf, row, chosen, none, absent, more}
+use Rattle.asn1_schema.specs.Owned.{filled, span}
+use Rattle.asn1_json.specs.declared.reading.made.Placed.{Placed}
+use Rattle.asn1_json.specs.declared.reading.made.JsonTape.{JsonTape}
+
+abbrev pub placed_mark : List ℕ → Placed → Mark
+placed_mark o p = filled p.shape (span o p.start p.len)
+
+-- what stands on a tape, if its octets were more
+abbrev pub made_with : JsonTape → List ℕ → List Mark
+made_with t others = map (placed_mark (t.octets.items ++ others)) t.items.items
+
+-- what stands on a tape
+abbrev pub made_marks : JsonTape → List Mark
+made_marks t = map (placed_mark t.octets.items) t.items.items
+
+-- a value of which no string is in pieces
+abbrev mutual
+  pub whole : Value → Kept
+  whole (leaf l) = kept_leaf l
+  whole (row vs) = kept_row (whole_row vs)
+  whole (chosen arm v) = kept_chosen arm (whole v)
+
+  pub whole_row : Values → KeptRow
+  whole_row none = kept_none
+  whole_row (absent vs) = kept_absent (whole_row vs)
+  whole_row (more v vs) = kept_more (whole v) (whole_row vs)
+
+-- its tape
+abbrev pub tape_of_value : Value → List Mark
+tape_of_value v = tape_of (whole v)
