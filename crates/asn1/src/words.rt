@@ -273,6 +273,11 @@ fn types_command<'a>(alloc: Global) -> Result<Command<'a>, AllocError> {
             "Prints the types of modules, a line each, what is left out, and whether they are sound",
         )
         .after_help("Example: asn1 types --module names.asn1 --module certificates.asn1")
+        .arg(flag(
+            alloc,
+            "normal",
+            "Prints the modules in their normal form instead",
+        ))?
         .arg(module_files(alloc))?
         .arg(most_octets(alloc))
 }
@@ -303,6 +308,11 @@ fn given(matches: &ArgMatches<'_>, id: &str) -> Option<usize> {
 /// As many octets of a file are read at most.
 pub fn most(matches: &ArgMatches<'_>) -> u64 {
     matches.get_one::<u64>("max-octets").unwrap_or(MOST_OCTETS)
+}
+
+/// Whether modules are printed in their normal form.
+pub fn is_normal(matches: &ArgMatches<'_>) -> bool {
+    matches.get_flag("normal")
 }
 
 /// The files of modules that a call names.
