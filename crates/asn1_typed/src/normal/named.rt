@@ -7,8 +7,8 @@ use asn1_schema::schema::{Field, Kind, Node, Presence, Tags, TextKind, TimeKind,
 use std::alloc::{AllocError, Global};
 use std::cmp::Ordering;
 
-/// So many bounds stand round a type at most.
-const MOST_BOUNDS: usize = 4096;
+/// So many bounds stand round a type at most; `asn1_module` puts fewer there.
+const MOST_BOUNDS: usize = 130;
 
 /// A type that is printed at its row, and a number that it has in common with all types of the same kind.
 #[derive(Debug, Clone, Copy, PartialEq, Eq, PartialOrd, Ord)]
@@ -154,24 +154,34 @@ fn are_same_labels(one: &[PartName<'_>], other: &[PartName<'_>]) -> bool {
     true
 }
 
-/// A number of fields by the rows that they lead to.
-fn key_of_fields(fields: &[Field]) -> u64 {
-    let mut key = 1u64;
+/// A number of another one and what follows it.
+fn mixed(key: u64, part: u64) -> u64 {
+    key.wrapping_mul(0x0100_0000_01b3).wrapping_add(part)
+}
+
+/// A number of another one and the rows that fields lead to.
+fn mixed_fields(key: u64, fields: &[Field]) -> u64 {
+    let mut key = mixed(key, fields.len() as u64);
     for field in fields {
-        key = key
-            .wrapping_mul(0x0100_0000_01b3)
-            .wrapping_add(field.of as u64);
+        key = mixed(key, field.of as u64);
     }
     key
 }
 
-/// A number of names by their lengths.
-fn key_of_labels(labels: &[PartName<'_>]) -> u64 {
-    let mut key = 2u64;
+/// A number of another one and a name.
+fn mixed_name(key: u64, name: &str) -> u64 {
+    let mut key = mixed(key, name.len() as u64);
+    for octet in name.as_bytes() {
+        key = mixed(key, u64::from(*octet));
+    }
+    key
+}
+
+/// A number of another one and the names of parts.
+fn mixed_labels(key: u64, labels: &[PartName<'_>]) -> u64 {
+    let mut key = key;
     for label in labels {
-        key = key
-            .wrapping_mul(0x0100_0000_01b3)
-            .wrapping_add(label.name.len() as u64);
+        key = mixed_name(key, label.name);
     }
     key
 }
@@ -254,16 +264,24 @@ impl<'s, 't> RowNames<'s, 't> {
         }
     }
 
-    /// The row behind the bounds of another one.
-    pub(crate) fn behind_bounds(&self, of: usize) -> usize {
-        let mut inner = of;
+    /// The row behind the bounds of another one, and how many bounds there are.
+    fn bounded(&self, of: usize) -> (usize, u64) {
+        let (mut inner, mut count) = (of, 0u64);
         for _ in 0..MOST_BOUNDS {
             match self.nodes.get(inner).map(|node| &node.kind) {
-                Some(Kind::Within(next, _, _)) => inner = *next,
+                Some(Kind::Within(next, _, _)) => {
+                    inner = *next;
+                    count = count.saturating_add(1);
+                }
                 _ => break,
             }
         }
-        inner
+        (inner, count)
+    }
+
+    /// The row behind the bounds of another one.
+    pub(crate) fn behind_bounds(&self, of: usize) -> usize {
+        self.bounded(of).0
     }
 
     /// Whether a row has another tag than its kind.
@@ -309,15 +327,16 @@ impl<'s, 't> RowNames<'s, 't> {
 
     /// A number that a row has in common with all rows of the same kind.
     fn key(&self, of: usize) -> u64 {
-        let base = self.behind_bounds(of);
-        match self.nodes.get(base).map(|node| &node.kind) {
-            Some(Kind::Sequence(fields, _)) => key_of_fields(fields),
-            Some(Kind::Set(fields, _)) => key_of_fields(fields),
-            Some(Kind::SequenceOf(member)) => *member as u64,
-            Some(Kind::SetOf(member)) => *member as u64,
-            Some(Kind::Explicit(inner)) => *inner as u64,
-            _ => key_of_labels(self.labels(base)),
-        }
+        let (base, count) = self.bounded(of);
+        let key = match self.nodes.get(base).map(|node| &node.kind) {
+            Some(Kind::Sequence(fields, _)) => mixed_fields(count, fields),
+            Some(Kind::Set(fields, _)) => mixed_fields(count, fields),
+            Some(Kind::SequenceOf(member)) => mixed(count, *member as u64),
+            Some(Kind::SetOf(member)) => mixed(count, *member as u64),
+            Some(Kind::Explicit(inner)) => mixed(count, *inner as u64),
+            _ => count,
+        };
+        mixed_labels(key, self.labels(base))
     }
 
     /// Whether two rows are the same but for their tags: they have the same bounds, lead to the same rows, and have

@@ -42,28 +42,6 @@ fn name_of<'t>(labels: &[PartName<'t>], at: usize) -> &'t str {
     }
 }
 
-/// Appends named numbers or bits, and an extension mark where there is one.
-fn push_labels(
-    text: &mut Vec<u8>,
-    labels: &[PartName<'_>],
-    is_open: bool,
-) -> Result<(), AllocError> {
-    let mut mark = " { ";
-    for label in labels {
-        push_str(text, mark)?;
-        push_str(text, label.name)?;
-        push_str(text, "(")?;
-        push_integer(text, label.number)?;
-        push_str(text, ")")?;
-        mark = ", ";
-    }
-    if is_open {
-        push_str(text, mark)?;
-        push_str(text, "...")?;
-    }
-    push_str(text, " }")
-}
-
 /// Appends a range of numbers, or of sizes, in parentheses.
 fn push_range(text: &mut Vec<u8>, bounds: Bounds, is_size: bool) -> Result<(), AllocError> {
     push_str(text, if is_size { "SIZE (" } else { "(" })?;
@@ -86,13 +64,21 @@ fn push_constraint(text: &mut Vec<u8>, bounds: Bounds, is_size: bool) -> Result<
 
 /// Appends the tag that a type has in the place of that of its kind, if it has one.
 fn push_other_tag(text: &mut Vec<u8>, node: &Node) -> Result<(), AllocError> {
-    match other_tag(node) {
-        None => Ok(()),
-        Some(tag) => {
-            push_tag(text, tag)?;
-            push_str(text, " IMPLICIT ")
-        }
+    let Some(tag) = other_tag(node) else {
+        return Ok(());
+    };
+    push_tag(text, tag)?;
+    push_str(text, " IMPLICIT ")
+}
+
+/// Appends the tag of a type, where it is written, and the word of its kind.
+fn push_front(text: &mut Vec<u8>, node: &Node) -> Result<(), AllocError> {
+    push_other_tag(text, node)?;
+    if let (Kind::Explicit(_), Some(tag)) = (&node.kind, first_tag(node)) {
+        push_tag(text, tag)?;
+        push_str(text, " ")?;
     }
+    push_str(text, kind_word(&node.kind))
 }
 
 impl<'s, 't> Printer<'s, 't> {
@@ -165,8 +151,8 @@ impl<'s, 't> Printer<'s, 't> {
             return self.push_cut();
         }
         self.left -= 1;
-        push_other_tag(&mut self.text, node)?;
-        self.push_kind(of, node, depth - 1, level)
+        push_front(&mut self.text, node)?;
+        self.push_parts(of, &node.kind, depth - 1, level)
     }
 
     /// Appends the name of a type under the tag that a row has in the place of its tag.
@@ -179,70 +165,33 @@ impl<'s, 't> Printer<'s, 't> {
         self.push_name(at)
     }
 
-    /// Appends the kind of a row behind its tag.
+    /// Appends what stands behind the word of a kind.
     #[cycle(normal)]
-    fn push_kind(
+    fn push_parts(
         &mut self,
         of: usize,
-        node: &'s Node,
+        kind: &'s Kind,
         depth: u8,
         level: usize,
     ) -> Result<(), AllocError> {
-        match &node.kind {
+        match kind {
             Kind::Within(inner, lower, upper) => {
                 self.push_bounded(*inner, (*lower, *upper), depth, level)
             }
-            Kind::Explicit(inner) => self.push_explicit(node, *inner, depth, level),
-            Kind::SequenceOf(member) => {
-                push_str(&mut self.text, "SEQUENCE OF ")?;
-                self.push_type(*member, depth, level)
-            }
-            Kind::SetOf(member) => {
-                push_str(&mut self.text, "SET OF ")?;
-                self.push_type(*member, depth, level)
-            }
+            Kind::Explicit(inner) => self.push_type(*inner, depth, level),
+            Kind::SequenceOf(member) => self.push_type(*member, depth, level),
+            Kind::SetOf(member) => self.push_type(*member, depth, level),
             Kind::Sequence(fields, unknown) => {
-                push_str(&mut self.text, "SEQUENCE {")?;
                 self.push_fields(of, fields, unknown.is_some(), depth, level)
             }
             Kind::Set(fields, unknown) => {
-                push_str(&mut self.text, "SET {")?;
                 self.push_fields(of, fields, unknown.is_some(), depth, level)
             }
-            Kind::Choice(arms) => {
-                push_str(&mut self.text, "CHOICE {")?;
-                self.push_arms(of, arms, depth, level)
-            }
-            _ => self.push_leaf(of, &node.kind),
+            Kind::Choice(arms) => self.push_arms(of, arms, depth, level),
+            Kind::Enumerated(_, is_open) => self.push_labels(of, *is_open, level),
+            _ if self.rows.labels(of).is_empty() => Ok(()),
+            _ => self.push_labels(of, false, level),
         }
-    }
-
-    /// Appends a kind that has no parts but named numbers or bits.
-    fn push_leaf(&mut self, of: usize, kind: &Kind) -> Result<(), AllocError> {
-        push_str(&mut self.text, kind_word(kind))?;
-        let labels = self.rows.labels(of);
-        match kind {
-            Kind::Enumerated(_, is_open) => push_labels(&mut self.text, labels, *is_open),
-            _ if labels.is_empty() => Ok(()),
-            _ => push_labels(&mut self.text, labels, false),
-        }
-    }
-
-    /// Appends the type in an element that has an explicit tag.
-    #[cycle(normal)]
-    fn push_explicit(
-        &mut self,
-        node: &Node,
-        inner: usize,
-        depth: u8,
-        level: usize,
-    ) -> Result<(), AllocError> {
-        let Some(tag) = first_tag(node) else {
-            return self.push_cut();
-        };
-        push_tag(&mut self.text, tag)?;
-        push_str(&mut self.text, " EXPLICIT ")?;
-        self.push_type(inner, depth, level)
     }
 
     /// Appends a type with bounds. Those of a list in line stand before its members; others would be of the members.
@@ -310,6 +259,20 @@ impl<'s, 't> Printer<'s, 't> {
         push_str(&mut self.text, "}")
     }
 
+    /// Appends named or listed numbers, or named bits, a line each.
+    fn push_labels(&mut self, of: usize, is_open: bool, level: usize) -> Result<(), AllocError> {
+        push_str(&mut self.text, " {")?;
+        let labels = self.rows.labels(of);
+        for (at, label) in labels.iter().enumerate() {
+            self.begin_line(at == 0, level)?;
+            push_str(&mut self.text, label.name)?;
+            push_str(&mut self.text, "(")?;
+            push_integer(&mut self.text, label.number)?;
+            push_str(&mut self.text, ")")?;
+        }
+        self.end_lines(labels.is_empty(), is_open, level)
+    }
+
     /// Appends fields, a line each.
     #[cycle(normal)]
     fn push_fields(
@@ -320,6 +283,7 @@ impl<'s, 't> Printer<'s, 't> {
         depth: u8,
         level: usize,
     ) -> Result<(), AllocError> {
+        push_str(&mut self.text, " {")?;
         let labels = self.rows.labels(of);
         for (at, field) in fields.iter().enumerate() {
             self.begin_line(at == 0, level)?;
@@ -355,6 +319,7 @@ impl<'s, 't> Printer<'s, 't> {
         depth: u8,
         level: usize,
     ) -> Result<(), AllocError> {
+        push_str(&mut self.text, " {")?;
         let labels = self.rows.labels(of);
         for (at, (arm, label)) in arms.iter().zip(labels.iter()).enumerate() {
             self.begin_line(at == 0, level)?;
