@@ -390,6 +390,126 @@ def modules(program, room):
     yield "types, no such file", (ended.returncode, ended.stderr.count(b"\n"), ended.stdout), (2, 1, b"")
 
 
+# Modules with each kind of type and of default value, and their normal form.
+WRITTEN = b"""M DEFINITIONS ::= BEGIN
+v INTEGER ::= 5
+base OBJECT IDENTIFIER ::= { iso member-body(2) 840 }
+Alias ::= Leaves
+Leaves ::= SEQUENCE { a BOOLEAN DEFAULT TRUE, b [0] INTEGER { one(1), two(2) } DEFAULT two, c INTEGER (0..v) DEFAULT -3,
+  d Listed DEFAULT green, e [1] IMPLICIT BIT STRING { x(0), y(9) } DEFAULT { y, x }, f BIT STRING DEFAULT '0101'B,
+  g OCTET STRING (SIZE (1..MAX)) DEFAULT '0fA'H, h UTF8String DEFAULT "a""b", i OBJECT IDENTIFIER DEFAULT { base 5 },
+  j RELATIVE-OID DEFAULT { 8571 3 }, k NULL DEFAULT NULL, l List DEFAULT {}, m [2] EXPLICIT UTCTime OPTIONAL, ... }
+Listed ::= ENUMERATED { red, green(5), ..., blue }
+Chosen ::= CHOICE { time GeneralizedTime, text BMPString (SIZE (1..4)) (FROM ("a")), ..., any [5] ANY }
+List ::= SEQUENCE SIZE (1..5) OF IA5String (SIZE (3))
+Shorter ::= [APPLICATION 2] IMPLICIT List (SIZE (2..3))
+Copies ::= SET { a [0] IMPLICIT Leaves, b [1] Chosen OPTIONAL, c [2] IMPLICIT Shorter, d [3] IMPLICIT Copies OPTIONAL,
+  e [PRIVATE 4] IMPLICIT Listed, f [5] SET OF Copies, g SEQUENCE {}, h NULL }
+END
+N DEFINITIONS AUTOMATIC TAGS ::= BEGIN
+IMPORTS Leaves FROM M;
+Row ::= SEQUENCE { a Leaves, b M.Listed, c CHOICE { x Row, y NULL } }
+END
+"""
+NORMAL = b"""M DEFINITIONS EXPLICIT TAGS ::= BEGIN
+
+Alias ::= Leaves
+
+Leaves ::= SEQUENCE {
+    a BOOLEAN DEFAULT TRUE,
+    b [0] EXPLICIT INTEGER {
+        one(1),
+        two(2)
+    } DEFAULT two,
+    c INTEGER (0..5) DEFAULT -3,
+    d Listed DEFAULT green,
+    e [1] IMPLICIT BIT STRING {
+        x(0),
+        y(9)
+    } DEFAULT { x, y },
+    f BIT STRING DEFAULT '0101'B,
+    g OCTET STRING (SIZE (1..MAX)) DEFAULT '0FA0'H,
+    h UTF8String DEFAULT "a""b",
+    i OBJECT IDENTIFIER DEFAULT { 1 2 840 5 },
+    j RELATIVE-OID DEFAULT { 8571 3 },
+    k NULL DEFAULT NULL,
+    l List DEFAULT { },
+    m [2] EXPLICIT UTCTime OPTIONAL,
+    ...
+}
+
+Listed ::= ENUMERATED {
+    red(0),
+    green(5),
+    blue(1),
+    ...
+}
+
+Chosen ::= CHOICE {
+    time GeneralizedTime,
+    text BMPString (SIZE (1..4)),
+    any [5] EXPLICIT ANY,
+    ...
+}
+
+List ::= SEQUENCE SIZE (1..5) OF IA5String (SIZE (3..3))
+
+Shorter ::= [APPLICATION 2] IMPLICIT List (SIZE (2..3))
+
+Copies ::= SET {
+    a [0] IMPLICIT Leaves,
+    b [1] EXPLICIT Chosen OPTIONAL,
+    c [2] IMPLICIT Shorter,
+    d [3] IMPLICIT Copies OPTIONAL,
+    e [PRIVATE 4] IMPLICIT Listed,
+    f [5] EXPLICIT SET OF Copies,
+    g SEQUENCE { },
+    h NULL
+}
+
+END
+
+N DEFINITIONS EXPLICIT TAGS ::= BEGIN
+
+Row ::= SEQUENCE {
+    a [0] IMPLICIT M.Leaves,
+    b [1] IMPLICIT M.Listed,
+    c [2] EXPLICIT CHOICE {
+        x [0] IMPLICIT Row,
+        y [1] IMPLICIT NULL
+    }
+}
+
+END
+"""
+
+
+def normal_forms(program, room):
+    """Yields the normal forms of modules, and what is told of these when they are read again."""
+    module, again = room / "module", room / "again"
+    module.write_bytes(WRITTEN)
+    built_in = run(program, "types", "--normal")
+    for name, words, text in (("each kind", ["--module", module], NORMAL), ("built in", [], built_in.stdout)):
+        ended = run(program, "types", "--normal", *words)
+        yield f"normal form, {name}", (ended.returncode, ended.stdout), (0, text)
+        again.write_bytes(text)
+        ended = run(program, "types", "--normal", "--module", again)
+        yield f"normal form of a normal form, {name}", (ended.returncode, ended.stdout), (0, text)
+        listed = [it for it in run(program, "types", *words).stdout.splitlines() if not it.startswith(bytes(module))]
+        yield f"types of a normal form, {name}", run(program, "types", "--module", again).stdout.splitlines(), listed
+    certificate = FOLDER / "data/certificate.pem"
+    ended = run(program, "decode", "--module", again, certificate)
+    yield "decode by a normal form", (ended.returncode, ended.stdout), (0, run(program, "decode", certificate).stdout)
+    for name, text, status, told in (
+            ("a mistake", b"M DEFINITIONS ::= BEGIN\nP ::= SEQUENCE { a }\nEND\n", 1, bytes(module) + b":2:20: expected a type\n"),
+            ("no types", b"M DEFINITIONS ::= BEGIN v INTEGER ::= 5 END", 0, b""),
+            ("no notation", b"M DEFINITIONS ::= BEGIN A ::= SEQUENCE { i OBJECT IDENTIFIER DEFAULT { 2 9223372036854775807 } } END", 1,
+             b"M DEFINITIONS EXPLICIT TAGS ::= BEGIN\n\nA ::= SEQUENCE {\n    i OBJECT IDENTIFIER DEFAULT ..\n}\n\nEND\n")):
+        module.write_bytes(text)
+        ended = run(program, "types", "--normal", "--module", module)
+        yield f"normal form, {name}", (ended.returncode, ended.stdout), (status, told)
+
+
 DECODED = b"""M DEFINITIONS ::= BEGIN
 A ::= SEQUENCE { a BOOLEAN DEFAULT FALSE, b [0] IMPLICIT INTEGER OPTIONAL, c C, ... }
 C ::= CHOICE { n NULL, i INTEGER { one(1) }, e ENUMERATED { red, green(5) }, s SEQUENCE OF INTEGER (-9..9) }
@@ -535,8 +655,8 @@ def main():
         room, wrong, count = pathlib.Path(name), 0, 0
         program = sys.argv[1]
         for rows in (trees(program), odd_files(program, room), refusals(program, room), forms(program, room),
-                     failures(program, room), modules(program, room), values(program, room), encoded(program, room),
-                     certificates(program),
+                     failures(program, room), modules(program, room), normal_forms(program, room), values(program, room),
+                     encoded(program, room), certificates(program),
                      verdicts(program, room, 5000)):
             for what, seen, expected in rows:
                 count += 1

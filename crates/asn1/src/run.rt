@@ -4,7 +4,9 @@ use crate::encoding::answer_encode;
 use crate::files::{Document, FileError, documents, read, told};
 use crate::modules::answer_types;
 use crate::typed::answer_typed;
-use crate::words::{Call, Task, asked, asked_by_type, asked_to_encode, command, is_normal, modules, most};
+use crate::words::{
+    Call, Task, asked, asked_by_type, asked_to_encode, command, is_normal, modules, most,
+};
 use asn1_engine::outcome::{FAILED, Outcome};
 use asn1_engine::plain::seems_text;
 use asn1_engine::{Finding, RunError, check, check_all, dump, dump_at};

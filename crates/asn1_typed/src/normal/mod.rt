@@ -30,7 +30,7 @@ fn begin_module<'t>(printer: &mut Printer<'_, 't>, name: &'t str) -> Result<(), 
 }
 
 /// Prints the modules of types.
-fn print<'s, 't>(
+fn print<'s, 't: 's>(
     alloc: Global,
     schema: &'s Schema<'t>,
     types: &'s [ModuleType<'t>],

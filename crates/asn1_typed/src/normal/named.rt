@@ -154,6 +154,14 @@ fn are_same_labels(one: &[PartName<'_>], other: &[PartName<'_>]) -> bool {
     true
 }
 
+/// A list, or an empty one where there is none.
+fn listed<T>(list: Option<&[T]>) -> &[T] {
+    match list {
+        None => &[],
+        Some(list) => list,
+    }
+}
+
 /// A number of another one and what follows it.
 fn mixed(key: u64, part: u64) -> u64 {
     key.wrapping_mul(0x0100_0000_01b3).wrapping_add(part)
@@ -186,7 +194,7 @@ fn mixed_labels(key: u64, labels: &[PartName<'_>]) -> u64 {
     key
 }
 
-impl<'s, 't> RowNames<'s, 't> {
+impl<'s, 't: 's> RowNames<'s, 't> {
     /// The names of the rows of a table by the types of modules.
     pub(crate) fn new(
         alloc: Global,
@@ -245,10 +253,7 @@ impl<'s, 't> RowNames<'s, 't> {
 
     /// The names of the parts of a row.
     pub(crate) fn labels(&self, of: usize) -> &'s [PartName<'t>] {
-        let Some(names) = self.names.get(of) else {
-            return &[];
-        };
-        names.labels.as_slice()
+        listed(self.names.get(of).map(|names| names.labels.as_slice()))
     }
 
     /// The type at a place among those of modules.

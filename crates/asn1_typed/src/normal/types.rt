@@ -81,7 +81,7 @@ fn push_front(text: &mut Vec<u8>, node: &Node) -> Result<(), AllocError> {
     push_str(text, kind_word(&node.kind))
 }
 
-impl<'s, 't> Printer<'s, 't> {
+impl<'s, 't: 's> Printer<'s, 't> {
     /// No text yet.
     pub(crate) fn new(alloc: Global, rows: RowNames<'s, 't>) -> Printer<'s, 't> {
         let left = rows.nodes.len().saturating_mul(MOST_REPEATED);
