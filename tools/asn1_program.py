@@ -433,6 +433,84 @@ STRICT = [
 ]
 
 
+# Types, JSON, and its strict encoding (X.697, X.690).
+SAID = [
+    ("A", '{"c":{"n":null}}', "30020500"),
+    ("A", ' { "...": ["0C00"], "c" : {"n":null}, "a": false } ', "300405000c00"),
+    ("A", '{"c":{"i":1},"b":2,"a":true}', "30090101ff800102020101"),
+    ("A", '{"c":{"e":0}}', "30030a0100"),
+    ("D", '{"octets":"0AFF","text":"\\u00e9","id":"2.999.0","bits":{"length":0,"value":""}}',
+     "3110030100" "04020aff" "0603883700" "0c02c3a9"),
+    ("C", '{"i":-170141183460469231731687303715884105729}', "0211ff7fffffffffffffffffffffffffffffff"),
+    ("C", '{"i":128}', "02020080"),
+    ("C", '{"i":-256}', "0202ff00"),
+    ("G", "[256,1,0,-1,1]", "3110" "020100" "020101" "020101" "0201ff" "02020100"),
+    ("E", '{"time":"261130090000Z","wide":"𝄞","any":"a003020105","relative":"8571.3"}',
+     "301f" "170d3236313133303039303030305a" "1e04d834dd1e" "a003020105" "8103c27b03"),
+]
+# Types, JSON, and what is told of it.
+NOT_SAID = [
+    ("A", "", "FILE:1:1 (A): the text is no JSON from here on, or it nests deeper than 128"),
+    ("A", '{"c":{"n":null}', "FILE:1:16 (A): the text is no JSON from here on, or it nests deeper than 128"),
+    ("A", "[" * 129 + "]" * 129, "FILE:1:130 (A): the text is no JSON from here on, or it nests deeper than 128"),
+    ("A", "[]", "FILE:1:1 (A): expected an object"),
+    ("A", "{}", "FILE:1:1, c (C): a component is missing"),
+    ("A", '{"a":1,"c":{"n":null}}', "FILE:1:6, a (BOOLEAN): expected true or false"),
+    ("A", '{"c":{"n":null},\n "d":1}', "FILE:2:2 (A): the type has no part with this name"),
+    ("A", '{"c":{"n":null},\n "c":1}', "FILE:2:2 (A): the name stands there more than once"),
+    ("A", '{"c":{"n":null},"...":[0]}', "FILE:1:24, ...[0] (ANY): expected a string of one element in hexadecimal, with a strict header"),
+    ("A", '{"c":{"n":null},"...":["0501"]}', "FILE:1:24, ...[0] (ANY): expected a string of one element in hexadecimal, with a strict header"),
+    ("A", '{"c":{"n":null},"...":["0000"]}', "FILE:1:24, ...[0] (ANY): the value is none of the type"),
+    ("A", '{"c":{"x":null}}', "FILE:1:7, c (C): the type has no part with this name"),
+    ("A", '{"c":{}}', "FILE:1:6, c (C): expected an object with one member"),
+    ("A", '{"c":{"n":false}}', "FILE:1:11, c.n (NULL): expected null"),
+    ("A", '{"c":{"i":1.0}}', "FILE:1:11, c.i (INTEGER): expected a number without fraction and exponent"),
+    ("A", '{"c":{"i":-0}}', "FILE:1:11, c.i (INTEGER): expected a number without fraction and exponent"),
+    ("A", '{"c":{"e":"blue"}}', "FILE:1:11, c.e (e): expected a name that the type has, or a number"),
+    ("A", '{"c":{"e":6}}', "FILE:1:11, c.e (e): the value is none of the type"),
+    ("C", '{"s":[0,\n10]}', "FILE:2:1, s[1] (INTEGER within -9..9): the value is none of the type"),
+    ("D", '{"bits":"00"}', "FILE:1:9, bits (BIT STRING): expected an object of value, in hexadecimal, and length, in bits"),
+    ("D", '{"bits":{"value":"c0","length":1}}', "FILE:1:9, bits (BIT STRING): expected an object of value, in hexadecimal, and length, in bits"),
+    ("D", '{"bits":{"value":"80","length":2}}', "FILE:1:9, bits (BIT STRING): the value is none of the type"),
+    ("D", '{"bits":{"value":"","length":0},"octets":"0"}', "FILE:1:42, octets (OCTET STRING): expected a string of hexadecimal digits, two for each octet"),
+    ("E", '{"time":"2026"}', "FILE:1:9, time (UTCTime): the value is none of the type"),
+    ("E", '{"time":20}', "FILE:1:9, time (UTCTime): expected a string"),
+    ("D", '{"bits":{"value":"","length":0},"octets":"","id":"1.40"}', "FILE:1:50, id (OBJECT IDENTIFIER): expected a string of arcs with points between them"),
+    ("D", '{"bits":{"value":"","length":0},"octets":"","id":"1.02.3"}', "FILE:1:50, id (OBJECT IDENTIFIER): expected a string of arcs with points between them"),
+]
+
+
+def encoded(program, room):
+    """Yields the octets of JSON, by a type of a module, and what is told where there are none."""
+    module, file, written = room / "module", room / "json", room / "written"
+    module.write_bytes(DECODED)
+    there = [(name, lines[0], octets) for name, octets, asked, status, lines, _ in VALUES if status == 0 and not asked]
+    for name, text, octets in [*there, *SAID]:
+        file.write_text(text, encoding="utf-8")
+        ended = run(program, "encode", "--module", module, "--type", name, file)
+        yield f"encode, {name} of {text}", (ended.returncode, ended.stdout.hex(), ended.stderr), (0, octets, b"")
+    for name, text, told in NOT_SAID:
+        file.write_text(text, encoding="utf-8")
+        ended = run(program, "encode", "--module", module, "--type", name, "-o", written, file)
+        seen = (ended.returncode, ended.stdout, ended.stderr.strip(), written.exists())
+        yield f"encode, {name} of {text[:80]}", seen, (1, b"", told.replace("FILE", str(file)).encode(), False)
+    file.write_bytes(b'"\xff"')
+    ended = run(program, "encode", "--module", module, "--type", "A", file)
+    yield "encode, no UTF-8", (ended.returncode, ended.stderr.strip()), (1, f"{file}:1:2 (A): the text is no UTF-8 from here on".encode())
+    for words in (["--type", "None", file], ["--type", "Certificate", room / "none"], ["--type", "A", "--pem", "-", file], [file]):
+        ended = run(program, "encode", *words)
+        yield f"encode, {words[:-1]}", (ended.returncode, ended.stdout), (2, b"")
+
+
+def element_told(program, file, told):
+    """The line of `dump` for the element at the octet of a refusal, if one begins there."""
+    place = re.match(r"FILE: octet (\d+)", told)
+    if not place:
+        return []
+    lines = run(program, "dump", "--from", "der", "--no-inner", "--at", place[1], file).stdout.splitlines()
+    return [it for it in lines[:1] if b" no element: " not in it]
+
+
 def values(program, room):
     """Yields what octets say as JSON, by a type of a module."""
     module, file = room / "module", room / "value"
@@ -440,8 +518,9 @@ def values(program, room):
     for name, octets, asked, status, lines, told in VALUES:
         file.write_bytes(bytes.fromhex(octets))
         ended = run(program, "decode", "--from", "der", "--module", module, "--type", name, *asked, file)
-        expected = (status, [it.encode() for it in lines], told.replace("FILE", str(file)).encode())
-        yield f"decode, {name} of {octets}", (ended.returncode, ended.stdout.splitlines(), ended.stderr.strip()), expected
+        refused = [told.replace("FILE", str(file)).encode()] if told else []
+        expected = (status, [it.encode() for it in lines], refused + element_told(program, file, told))
+        yield f"decode, {name} of {octets}", (ended.returncode, ended.stdout.splitlines(), ended.stderr.splitlines()), expected
     for name, octets, status, told in STRICT:
         file.write_bytes(bytes.fromhex(octets))
         ended = run(program, "check", "--from", "der", "--module", module, "--type", name, file)
@@ -457,6 +536,8 @@ def certificates(program):
         signed = json.loads(ended.stdout)["tbsCertificate"]
         seen = (ended.returncode, signed["serialNumber"], set(signed) >= {"issuer", "validity", "subject", "subjectPublicKeyInfo"})
         yield f"decode, {path.name}", seen, (0, int(said.stdout.partition("=")[2], 16), True)
+        back = run(program, "encode", "--type", "Certificate", "--pem", "CERTIFICATE", "-", input=ended.stdout)
+        yield f"encode, {path.name}", (back.returncode, back.stdout.split(), back.stderr), (0, path.read_bytes().split(), b"")
 
 
 def main():
@@ -464,7 +545,8 @@ def main():
         room, wrong, count = pathlib.Path(name), 0, 0
         program = sys.argv[1]
         for rows in (trees(program), odd_files(program, room), refusals(program, room), forms(program, room),
-                     failures(program, room), modules(program, room), values(program, room), certificates(program),
+                     failures(program, room), modules(program, room), values(program, room), encoded(program, room),
+                     certificates(program),
                      verdicts(program, room, 5000)):
             for what, seen, expected in rows:
                 count += 1

@@ -2,6 +2,7 @@
 #![tactic(auto)]
 
 pub mod decoding;
+pub mod encoding;
 pub mod input;
 pub mod kinds;
 pub mod labels;
@@ -18,6 +19,7 @@ pub mod tables;
 pub mod tags;
 
 pub use decoding::{Decoded, Decoding, decode, decode_lines};
+pub use encoding::{Encoded, encode};
 pub use input::Input;
 pub use listing::types;
 pub use sought::{TypeName, type_named};
