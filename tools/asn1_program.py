@@ -622,6 +622,15 @@ def encoded(program, room):
         yield f"encode, {words[:-1]}", (ended.returncode, ended.stdout), (2, b"")
 
 
+def element_told(program, file, told):
+    """The line of `dump` for the element at the octet of a refusal, if one begins there."""
+    place = re.match(r"FILE: octet (\d+)", told)
+    if not place:
+        return []
+    lines = run(program, "dump", "--from", "der", "--no-inner", "--at", place[1], file).stdout.splitlines()
+    return [it for it in lines[:1] if b" no element: " not in it]
+
+
 def values(program, room):
     """Yields what octets say as JSON, by a type of a module."""
     module, file = room / "module", room / "value"
@@ -629,8 +638,9 @@ def values(program, room):
     for name, octets, asked, status, lines, told in VALUES:
         file.write_bytes(bytes.fromhex(octets))
         ended = run(program, "decode", "--from", "der", "--module", module, "--type", name, *asked, file)
-        expected = (status, [it.encode() for it in lines], told.replace("FILE", str(file)).encode())
-        yield f"decode, {name} of {octets}", (ended.returncode, ended.stdout.splitlines(), ended.stderr.strip()), expected
+        refused = [told.replace("FILE", str(file)).encode()] if told else []
+        expected = (status, [it.encode() for it in lines], refused + element_told(program, file, told))
+        yield f"decode, {name} of {octets}", (ended.returncode, ended.stdout.splitlines(), ended.stderr.splitlines()), expected
     for name, octets, status, told in STRICT:
         file.write_bytes(bytes.fromhex(octets))
         ended = run(program, "check", "--from", "der", "--module", module, "--type", name, file)

@@ -132,6 +132,15 @@ def states(count, name, trait, call, word, what):
     return f"/// States of the fields in hand that {what}.\npub fn {name}{count}<{bounds}>({values})\n{said}\n{{\n{calls}}}\n"
 
 
+def rows(count):
+    """The type of a row of so many fields."""
+    nested = "()"
+    for it in reversed(LETTERS[:count]):
+        nested = f"({it}, {nested})"
+    fields = "one field" if count == 1 else f"{count} fields"
+    return f"/// A row of {fields}.\npub type Row{count}<{', '.join(LETTERS[:count])}> = {nested};\n"
+
+
 FILES = {
     "leaves_by_der": lambda: [read("Der", leaf) for leaf in leaves()],
     "leaves_by_ber": lambda: [read("Ber", leaf) for leaf in leaves()],
@@ -141,6 +150,7 @@ FILES = {
         states(count, "in_hand", "WritesField", "field_in_hand", "has_a_value", "their values are those of their types")
         for count in range(1, 17)
     ],
+    "flat/rows": lambda: [rows(count) for count in range(1, 17)],
     "flat/in_der": lambda: [
         states(count, "in_der", "FieldIsDer", "field_is_der", "is_in_der", "their values are in DER form")
         for count in range(1, 17)

@@ -12,14 +12,14 @@ use Rattle.asn1_schema.specs.declared.schema.Kind.TheVariants as kinds
 use Rattle.asn1_schema.specs.declared.schema.Field.{Field}
 use Rattle.asn1_schema.specs.Tape.{tape_of}
 use Rattle.asn1_schema.specs.Values.{Value, Values, row, none}
-use Rattle.asn1_json.specs.declared.reading.made.JsonTape.{JsonTape}
+use Rattle.asn1_schema.specs.declared.owned.OwnedTape.{OwnedTape}
 use Rattle.asn1_json.specs.declared.reading.arranged.Member.{Member}
-use Rattle.asn1_json.specs.Made.{made_marks}
+use Rattle.asn1_schema.specs.Owned.{owned_marks}
 use Rattle.asn1_json.specs.Tokens.{Types, type_of_unknown}
 use Rattle.asn1_json.specs.Types.{arms_of, fields_of, kind_at, resolved, unknown_type}
 use Rattle.asn1_json.specs.Denotes.{Denotes, DenoteItems, DenoteUnknown, DenotesChosen, DenotesKind, DenotesResolved, DenotesRow, listed_items}
 use Rattle.asn1_json.specs.Outcomes.{IsMember, Makes, MakesRow, document_of}
-use Rattle.asn1_json.proofs.Appended.{made_whole}
+use Rattle.asn1_schema.proofs.Appended.{appended_to_none}
 use Rattle.asn1_json.proofs.Rows.{item_made, makes_as, row_of_none}
 
 pub on_ok : {T E : Type 0} (r : Result T E) (P Q : Type 0) → (P → Q) → OnOk r P → OnOk r Q
@@ -33,10 +33,10 @@ if_ok P Q (Err e) f p = tt
 -- One item more.
 
 module _ {X : Type 0} (f : X → Json) (xs : List X) (Sub : Json → Value → Type 0) where
-  pub no_item : (tape : JsonTape) → MakesRow (DenoteItems Sub (items_of (map f (take 0 xs)))) tape tape
+  pub no_item : (tape : OwnedTape) → MakesRow (DenoteItems Sub (items_of (map f (take 0 xs)))) tape tape
   no_item tape = row_of_none (DenoteItems Sub (items_of (map f (take 0 xs)))) tape tt
 
-  pub next_item : (i : ℕ) (x d : X) (old mid new : JsonTape) → x ≡ get_or xs i d → i < length xs →
+  pub next_item : (i : ℕ) (x d : X) (old mid new : OwnedTape) → x ≡ get_or xs i d → i < length xs →
       MakesRow (DenoteItems Sub (items_of (map f (take i xs)))) old mid → Makes (Sub (f x)) mid new →
       MakesRow (DenoteItems Sub (items_of (map f (take (i + 1) xs)))) old new
   next_item i x d old mid new is lt a b =
@@ -45,7 +45,7 @@ module _ {X : Type 0} (f : X → Json) (xs : List X) (Sub : Json → Value → T
       ∙ ap (λ (y : X). map f (take i xs) ++ f y ∷ []) (sym is)))
       (item_made Sub (map f (take i xs)) (f x) old mid new a b)
 
-  pub all_items : (i : ℕ) (old new : JsonTape) → length xs ≤ i → MakesRow (DenoteItems Sub (items_of (map f (take i xs)))) old new →
+  pub all_items : (i : ℕ) (old new : OwnedTape) → length xs ≤ i → MakesRow (DenoteItems Sub (items_of (map f (take i xs)))) old new →
       MakesRow (DenoteItems Sub (items_of (map f xs))) old new
   all_items i old new le a =
       subst (λ (l : List X). MakesRow (DenoteItems Sub (items_of (map f l))) old new) (take_all i xs le) a
@@ -61,12 +61,12 @@ no_unknown Sub (Some t) = refl
 
 -- Members of sets.
 
-pub member_made : (Sub : Json → Value → Type 0) (m : Member) (fresh : JsonTape) → made_marks fresh ≡ [] →
+pub member_made : (Sub : Json → Value → Type 0) (m : Member) (fresh : OwnedTape) → owned_marks fresh ≡ [] →
     Makes (Sub (document_of m)) fresh m.made → IsMember Sub m
-member_made Sub m fresh empty a = (a.kept, made_whole fresh m.made (tape_of a.kept) empty a.put, a.denotes)
+member_made Sub m fresh empty a = (a.kept, appended_to_none fresh m.made (tape_of a.kept) empty a.put, a.denotes)
 
-pub member_more : (Sub : Json → Value → Type 0) (ms ns : List Member) (m : Member) (fresh : JsonTape) (js : List Json) →
-    ns ≡ ms ++ m ∷ [] → map document_of ms ≡ js → All (IsMember Sub) ms → made_marks fresh ≡ [] →
+pub member_more : (Sub : Json → Value → Type 0) (ms ns : List Member) (m : Member) (fresh : OwnedTape) (js : List Json) →
+    ns ≡ ms ++ m ∷ [] → map document_of ms ≡ js → All (IsMember Sub) ms → owned_marks fresh ≡ [] →
     Makes (Sub (document_of m)) fresh m.made → (map document_of ns ≡ js ++ document_of m ∷ []) × All (IsMember Sub) ns
 member_more Sub ms ns m fresh js e is all empty made = (
   ap (λ (l : List Member). map document_of l) e ∙ map-append document_of ms (m ∷ []) ∙ ap (λ (l : List Json). l ++ document_of m ∷ []) is,

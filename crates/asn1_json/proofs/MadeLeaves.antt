@@ -10,15 +10,16 @@ use Rattle.asn1_schema.specs.Values.{Leaf, Value, leaf}
 use Rattle.asn1_json.specs.DenotedLeaves.{DenotesLeaf}
 use Rattle.asn1_json.specs.Denotes.{DenotesKind}
 use Rattle.asn1_json.specs.Made.{tape_of_value}
-use Rattle.asn1_json.specs.Outcomes.{Appends, DenotesSimple, Makes, Reads}
+use Rattle.asn1_schema.specs.Owned.{Appends}
+use Rattle.asn1_json.specs.Outcomes.{DenotesSimple, Makes, Reads}
 use Rattle.asn1_json.specs.Tokens.{Types}
 use Rattle.asn1_json.specs.Types.{labels_at}
 use Rattle.std.specs.Prelude.{Some, None}
-use Rattle.asn1_json.specs.declared.reading.made.JsonTape.{JsonTape}
+use Rattle.asn1_schema.specs.declared.owned.OwnedTape.{OwnedTape}
 use Rattle.asn1_json.specs.declared.reading.trail.Fault.{Fault}
 
 -- what `put` puts is denoted
-pub put_leaf : (l : Leaf) (labels : List PartName) (kind : Kind) (j : Json) (W : Value → Type 0) (old new : JsonTape)
+pub put_leaf : (l : Leaf) (labels : List PartName) (kind : Kind) (j : Json) (W : Value → Type 0) (old new : OwnedTape)
     (r : Result (Unit {0}) Fault) → Reads tape_of_value (λ v. v ≡ leaf l) W old new r → DenotesLeaf labels kind j l →
     OnOk r (Makes (DenotesSimple labels kind j) old new)
 put_leaf l labels kind j W old new (Ok x) p d = record {

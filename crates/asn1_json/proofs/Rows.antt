@@ -13,12 +13,13 @@ use Rattle.asn1_schema.specs.Rules.{der}
 use Rattle.asn1_schema.specs.Tape.{Mark, Kept, KeptRow, kept_leaf, kept_row, kept_chosen, kept_none, kept_absent, kept_more, value_of, values_of, tape_of, tapes_of}
 use Rattle.asn1_schema.specs.Tape.{leaf_mark, absent_mark, begin_mark, end_mark, arm_mark, arm_end_mark, between}
 use Rattle.asn1_schema.specs.Values.{Leaf, Value, Values, leaf, row, chosen, none, absent, more}
-use Rattle.asn1_json.specs.declared.reading.made.JsonTape.{JsonTape}
+use Rattle.asn1_schema.specs.declared.owned.OwnedTape.{OwnedTape}
 use Rattle.asn1_json.specs.Tokens.{Types, name_of_field}
-use Rattle.asn1_json.specs.Made.{made_marks}
+use Rattle.asn1_schema.specs.Owned.{owned_marks}
 use Rattle.asn1_json.specs.Denotes.{DenoteFields, DenoteItems, DenoteUnknown, DenotesComponent}
-use Rattle.asn1_json.specs.Outcomes.{Appends, DenoteFirst, DenotesOnce, Makes, MakesRow, and_then}
-use Rattle.asn1_json.proofs.Appended.{appends_nothing, appends_both, made_whole}
+use Rattle.asn1_schema.specs.Owned.{Appends}
+use Rattle.asn1_json.specs.Outcomes.{DenoteFirst, DenotesOnce, Makes, MakesRow, and_then}
+use Rattle.asn1_schema.proofs.Appended.{appends_nothing, appends_both, appended_to_none}
 
 -- rows, one behind the other
 abbrev pub behind : KeptRow → KeptRow → KeptRow
@@ -43,7 +44,7 @@ and_then_assoc (absent a) b c = ap absent (and_then_assoc a b c)
 and_then_assoc (more v a) b c = ap (more v) (and_then_assoc a b c)
 
 -- a row, and another behind it
-pub rows_joined : (D E F : Values → Type 0) (old mid new : JsonTape) → MakesRow D old mid → MakesRow E mid new →
+pub rows_joined : (D E F : Values → Type 0) (old mid new : OwnedTape) → MakesRow D old mid → MakesRow E mid new →
     ((vs ws : Values) → D vs → E ws → F (and_then vs ws)) → MakesRow F old new
 rows_joined D E F old mid new a b both = record {
   kept = behind a.kept b.kept;
@@ -51,10 +52,10 @@ rows_joined D E F old mid new a b both = record {
   put = subst (Appends old new) (sym (tapes_behind a.kept b.kept)) (appends_both old mid new (tapes_of a.kept) (tapes_of b.kept) a.put b.put);
 }
 
-pub row_of_none : (E : Values → Type 0) (tape : JsonTape) → E none → MakesRow E tape tape
+pub row_of_none : (E : Values → Type 0) (tape : OwnedTape) → E none → MakesRow E tape tape
 row_of_none E tape e = record { kept = kept_none; denotes = e; put = appends_nothing tape }
 
-pub row_of_one : (D : Value → Type 0) (E : Values → Type 0) (old new : JsonTape) → Makes D old new →
+pub row_of_one : (D : Value → Type 0) (E : Values → Type 0) (old new : OwnedTape) → Makes D old new →
     ((v : Value) → D v → E (more v none)) → MakesRow E old new
 row_of_one D E old new m e = record {
   kept = kept_more m.kept kept_none;
@@ -62,18 +63,18 @@ row_of_one D E old new m e = record {
   put = subst (Appends old new) (sym (append-nil (tape_of m.kept))) m.put;
 }
 
-pub row_of_absent : (E : Values → Type 0) (old new : JsonTape) → Appends old new (absent_mark ∷ []) → E (absent none) →
+pub row_of_absent : (E : Values → Type 0) (old new : OwnedTape) → Appends old new (absent_mark ∷ []) → E (absent none) →
     MakesRow E old new
 row_of_absent E old new a e = record { kept = kept_absent kept_none; denotes = e; put = a }
 
 -- the same by another name
-pub makes_as : (D E : Value → Type 0) (old new : JsonTape) → ((v : Value) → D v → E v) → Makes D old new → Makes E old new
+pub makes_as : (D E : Value → Type 0) (old new : OwnedTape) → ((v : Value) → D v → E v) → Makes D old new → Makes E old new
 makes_as D E old new e m = record { kept = m.kept; denotes = e (value_of m.kept) m.denotes; put = m.put }
 
-pub row_as : (D E : Values → Type 0) (old new : JsonTape) → ((vs : Values) → D vs → E vs) → MakesRow D old new → MakesRow E old new
+pub row_as : (D E : Values → Type 0) (old new : OwnedTape) → ((vs : Values) → D vs → E vs) → MakesRow D old new → MakesRow E old new
 row_as D E old new e m = record { kept = m.kept; denotes = e (values_of m.kept) m.denotes; put = m.put }
 
-pub leaf_made : (D : Value → Type 0) (old new : JsonTape) (l : Leaf) → Appends old new (leaf_mark l ∷ []) → D (leaf l) → Makes D old new
+pub leaf_made : (D : Value → Type 0) (old new : OwnedTape) (l : Leaf) → Appends old new (leaf_mark l ∷ []) → D (leaf l) → Makes D old new
 leaf_made D old new l a d = record { kept = kept_leaf l; denotes = d; put = a }
 
 -- one item more
@@ -86,7 +87,7 @@ items_more Sub (i ∷ js) j none v d s = absurd d
 items_more Sub (i ∷ js) j (absent vs) v d s = absurd d
 items_more Sub (i ∷ js) j (more w vs) v d s = (d.0, items_more Sub js j vs v d.1 s)
 
-pub item_made : (Sub : Json → Value → Type 0) (js : List Json) (j : Json) (old mid new : JsonTape) →
+pub item_made : (Sub : Json → Value → Type 0) (js : List Json) (j : Json) (old mid new : OwnedTape) →
     MakesRow (DenoteItems Sub (items_of js)) old mid → Makes (Sub j) mid new →
     MakesRow (DenoteItems Sub (items_of (js ++ j ∷ []))) old new
 item_made Sub js j old mid new a b =
@@ -96,18 +97,18 @@ item_made Sub js j old mid new a b =
     (λ vs ws d e. subst (λ (z : Values). DenoteItems Sub (items_of (js ++ j ∷ [])) (and_then vs z)) (sym e.1) (items_more Sub js j vs e.0 d e.2))
 
 -- a row is put, whose values are on a tape of their own
-pub row_made : (D : Values → Type 0) (E : Value → Type 0) (fresh inner old new : JsonTape) → made_marks fresh ≡ [] →
+pub row_made : (D : Values → Type 0) (E : Value → Type 0) (fresh inner old new : OwnedTape) → owned_marks fresh ≡ [] →
     MakesRow D fresh inner →
-    ((ms : List Mark) → made_marks inner ≡ ms → Appends old new (between (begin_mark (length ms)) ms (end_mark (length ms)))) →
+    ((ms : List Mark) → owned_marks inner ≡ ms → Appends old new (between (begin_mark (length ms)) ms (end_mark (length ms)))) →
     ((vs : Values) → D vs → E (row vs)) → Makes E old new
 row_made D E fresh inner old new empty m put e = record {
   kept = kept_row m.kept;
   denotes = e (values_of m.kept) m.denotes;
-  put = put (tapes_of m.kept) (made_whole fresh inner (tapes_of m.kept) empty m.put);
+  put = put (tapes_of m.kept) (appended_to_none fresh inner (tapes_of m.kept) empty m.put);
 }
 
 -- a value of an arm ends
-pub arm_made : (D E : Value → Type 0) (arm : ℕ) (old begun mid new : JsonTape) → Appends old begun (arm_mark arm ∷ []) →
+pub arm_made : (D E : Value → Type 0) (arm : ℕ) (old begun mid new : OwnedTape) → Appends old begun (arm_mark arm ∷ []) →
     Makes D begun mid → Appends mid new (arm_end_mark arm ∷ []) → ((v : Value) → D v → E (chosen arm v)) → Makes E old new
 arm_made D E arm old begun mid new b m c e = record {
   kept = kept_chosen arm m.kept;
@@ -154,10 +155,10 @@ module _ (types : Types) (depth : ℕ) (Sub : ℕ → Json → Value → Type 0)
       subst (DenoteFields types depth Sub at unknown ms fs 0) (sym (and_then_assoc vs ws rest))
       (first (and_then ws rest) (subst (λ (gs : List Field). DenoteFields types depth Sub at unknown ms gs place (and_then ws rest)) (sym is) here))
 
-  pub fields_begun : (tape : JsonTape) → MakesRow (DenoteFirst types depth Sub at unknown ms fs 0) tape tape
+  pub fields_begun : (tape : OwnedTape) → MakesRow (DenoteFirst types depth Sub at unknown ms fs 0) tape tape
   fields_begun tape = row_of_none (DenoteFirst types depth Sub at unknown ms fs 0) tape (λ ws d. d)
 
-  pub field_made : (place : ℕ) (gs : List Field) (f d : Field) (old mid new : JsonTape) → gs ≡ fs → f ≡ get_or gs place d →
+  pub field_made : (place : ℕ) (gs : List Field) (f d : Field) (old mid new : OwnedTape) → gs ≡ fs → f ≡ get_or gs place d →
       place < length gs → MakesRow (DenoteFirst types depth Sub at unknown ms fs place) old mid →
       MakesRow (DenotesOnce types depth Sub f (get_member (name_of_field types (Some at) place) ms)) mid new →
       MakesRow (DenoteFirst types depth Sub at unknown ms fs (place + 1)) old new
@@ -171,7 +172,7 @@ module _ (types : Types) (depth : ℕ) (Sub : ℕ → Json → Value → Type 0)
       (DenoteFirst types depth Sub at unknown ms fs (place + 1)) old mid new a b (λ vs ws d e. first_more place f vs ws is d e)
 
   -- and the unknown elements behind them
-  pub fields_made : (old mid new : JsonTape) → MakesRow (DenoteFirst types depth Sub at unknown ms fs (length fs)) old mid →
+  pub fields_made : (old mid new : OwnedTape) → MakesRow (DenoteFirst types depth Sub at unknown ms fs (length fs)) old mid →
       MakesRow (DenoteUnknown Sub unknown (get_member (codes "...") ms)) mid new →
       MakesRow (DenoteFields types depth Sub at unknown ms fs 0) old new
   fields_made old mid new a b =

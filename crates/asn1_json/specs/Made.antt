@@ -1,21 +1,7 @@
--- Tapes that are made item by item.
-use Rattle.std.specs.Prelude.{ℕ, List, ◌++◌, map}
+-- Tapes of values of which no string is in pieces.
+use Rattle.std.specs.Prelude.{List}
 use Rattle.asn1_schema.specs.Tape.{Mark, Kept, KeptRow, kept_leaf, kept_row, kept_chosen, kept_none, kept_absent, kept_more, tape_of}
 use Rattle.asn1_schema.specs.Values.{Value, Values, leaf, row, chosen, none, absent, more}
-use Rattle.asn1_schema.specs.Owned.{filled, span}
-use Rattle.asn1_json.specs.declared.reading.made.Placed.{Placed}
-use Rattle.asn1_json.specs.declared.reading.made.JsonTape.{JsonTape}
-
-abbrev pub placed_mark : List ℕ → Placed → Mark
-placed_mark o p = filled p.shape (span o p.start p.len)
-
--- what stands on a tape, if its octets were more
-abbrev pub made_with : JsonTape → List ℕ → List Mark
-made_with t others = map (placed_mark (t.octets.items ++ others)) t.items.items
-
--- what stands on a tape
-abbrev pub made_marks : JsonTape → List Mark
-made_marks t = map (placed_mark t.octets.items) t.items.items
 
 -- a value of which no string is in pieces
 abbrev mutual

@@ -1,5 +1,5 @@
 -- What comes of JSON that is read.
-use Rattle.std.specs.Prelude.{ℕ, ◌≡◌, ◌<◌, List, [], ◌∷◌, ◌++◌, drop, Option, Result, MatchResult, All}
+use Rattle.std.specs.Prelude.{ℕ, ◌≡◌, ◌<◌, List, drop, Option, Result, MatchResult, All}
 use Rattle.x690.specs.Identifiers.{Identifier}
 use Rattle.x690.specs.Strict.{element_octets}
 use Rattle.json.specs.Json.{Json, array, Items, Members}
@@ -9,16 +9,16 @@ use Rattle.asn1_schema.specs.declared.schema.Node.{Node}
 use Rattle.asn1_schema.specs.declared.schema.Kind.{Kind}
 use Rattle.asn1_schema.specs.declared.names.PartName.{PartName}
 use Rattle.asn1_schema.specs.declared.tape.Item.{Item}
+use Rattle.asn1_schema.specs.declared.owned.OwnedTape.{OwnedTape}
+use Rattle.asn1_schema.specs.Owned.{Appends, owned_marks}
 use Rattle.asn1_schema.specs.Grammar.{Body, LeftOut, Word}
 use Rattle.asn1_schema.specs.Rules.{der, strict}
 use Rattle.asn1_schema.specs.Tape.{Mark, Kept, KeptRow, mark, leaf_mark, tape_of, tapes_of, value_of, values_of}
 use Rattle.asn1_schema.specs.Values.{Leaf, Value, Values, leaf, row, any, none, absent, more}
 use Rattle.asn1_json.specs.DenotedLeaves.{DenotesLeaf}
 use Rattle.asn1_json.specs.Denotes.{DenoteFields, DenoteItems, DenoteSet, DenotesComponent}
-use Rattle.asn1_json.specs.Made.{made_marks, made_with}
 use Rattle.asn1_json.specs.Tokens.{Types}
 use Rattle.asn1_json.specs.declared.reading.arranged.Member.{Member}
-use Rattle.asn1_json.specs.declared.reading.made.JsonTape.{JsonTape}
 use Rattle.asn1_json.specs.declared.reading.trail.Fault.{Fault}
 use Rattle.asn1_json.specs.declared.reading.trail.Fault.TheVariants as faults
 
@@ -35,36 +35,30 @@ abbrev pub IsElementItem : List ℕ → Item → Type 0
 IsElementItem octets item = (id : Identifier) × (content : List ℕ) × (id.class < 4) ×
     (octets ≡ element_octets id content) × (mark item ≡ leaf_mark (any id content))
 
--- Marks were put behind those of a tape, and their octets behind its octets.
-pub record Appends (old new : JsonTape) (ms : List Mark) : Type 0 where
-  pub octets : List ℕ
-  pub behind : new.octets.items ≡ old.octets.items ++ octets
-  pub marks : (others : List ℕ) → made_with new others ≡ made_with old (octets ++ others) ++ ms
-
 -- No value has both.
 abbrev pub HaveNone : {V : Type 0} → (V → Type 0) → (V → Type 0) → Type 0
 HaveNone {V} D W = (v : V) → D v → W v → ⊥
 
 -- What is denoted was put behind the marks of a tape, and nothing else that is denoted has a strict encoding.
-pub record Puts {V : Type 0} (tape_of : V → List Mark) (D W : V → Type 0) (old new : JsonTape) : Type 0 where
+pub record Puts {V : Type 0} (tape_of : V → List Mark) (D W : V → Type 0) (old new : OwnedTape) : Type 0 where
   pub value : V
   pub denotes : D value
   pub only : (other : V) → D other → W other → other ≡ value
   pub put : Appends old new (tape_of value)
 
 -- Where it is refused, nothing that is denoted has a strict encoding.
-abbrev pub Reads : {V T : Type 0} → (V → List Mark) → (V → Type 0) → (V → Type 0) → JsonTape → JsonTape → Result T Fault → Type 0
+abbrev pub Reads : {V T : Type 0} → (V → List Mark) → (V → Type 0) → (V → Type 0) → OwnedTape → OwnedTape → Result T Fault → Type 0
 Reads tape_of D W old new result =
     MatchResult result (λ _. Puts tape_of D W old new) (λ fault. fault ≡ faults.Refused → HaveNone D W)
 
 -- A value that is denoted was put behind the marks of a tape, and nothing else was.
-pub record Makes (D : Value → Type 0) (old new : JsonTape) : Type 0 where
+pub record Makes (D : Value → Type 0) (old new : OwnedTape) : Type 0 where
   pub kept : Kept
   pub denotes : D (value_of kept)
   pub put : Appends old new (tape_of kept)
 
 -- so of values in a row
-pub record MakesRow (D : Values → Type 0) (old new : JsonTape) : Type 0 where
+pub record MakesRow (D : Values → Type 0) (old new : OwnedTape) : Type 0 where
   pub kept : KeptRow
   pub denotes : D (values_of kept)
   pub put : Appends old new (tapes_of kept)
@@ -106,7 +100,7 @@ abbrev pub document_of : Member → Json
 document_of m = value_view m.item.now
 
 abbrev pub IsMember : (Json → Value → Type 0) → Member → Type 0
-IsMember Sub m = (kept : Kept) × (made_marks m.made ≡ tape_of kept) × Sub (document_of m) (value_of kept)
+IsMember Sub m = (kept : Kept) × (owned_marks m.made ≡ tape_of kept) × Sub (document_of m) (value_of kept)
 
 abbrev pub AreMembers : (Json → Value → Type 0) → List Member → Type 0
 AreMembers Sub ms = All (IsMember Sub) ms

@@ -15,5 +15,5 @@ pub mod walk;
 
 pub use error::JsonError;
 pub use out::TokenWriter;
-pub use reading::{FromJsonError, JsonRefusal, JsonTape, tape_from_json};
+pub use reading::{FromJsonError, JsonRefusal, tape_from_json};
 pub use shown::{json_of, write_value};

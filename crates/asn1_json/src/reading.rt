@@ -1,10 +1,10 @@
 //! Values of the types of tables, from JSON.
 ghost use Rattle.std.specs.Prelude.{ℕ, ◌≡◌, ◌≤◌, true, IfOk, IfErr, length};
 ghost use Rattle.json.specs.Value.{value_view};
+ghost use Rattle.asn1_schema.specs.Owned.{owned_marks};
 ghost use Rattle.asn1_schema.specs.Sound.{is_sound};
 ghost use Rattle.asn1_schema.specs.Tape.{Kept, tape_of, value_of};
 ghost use Rattle.asn1_json.specs.Denotes.{Denotes};
-ghost use Rattle.asn1_json.specs.Made.{made_marks};
 ghost use Rattle.asn1_json.specs.MadeFrom.{IsMadeFrom, IsWithin};
 ghost use Rattle.asn1_json.specs.Tokens.{seen};
 ghost use Rattle.asn1_json.specs.declared.reading.FromJsonError.TheVariants as errors;
@@ -16,7 +16,6 @@ mod characters;
 mod digits;
 mod integers;
 mod leaf;
-mod made;
 mod names;
 mod place;
 mod trail;
@@ -24,9 +23,9 @@ mod values;
 
 use crate::types::Types;
 use asn1_schema::build::Schema;
+use asn1_schema::owned::OwnedTape;
 use json::{Error, Scratch, Value};
 use leaf::By;
-pub use made::JsonTape;
 use place::{octet_of, octet_of_fault, path_of};
 use std::alloc::{AllocError, AllocFailed, Global};
 use std::{fmt, str};
@@ -145,14 +144,14 @@ fn made_from(
     of: usize,
     text: &str,
     value: &Value<'_>,
-) -> Result<JsonTape, FromJsonError>
+) -> Result<OwnedTape, FromJsonError>
     requires sound { is_sound by.types.table.now ≡ true }
-    ensures ok { IfOk result (λ made. (kept : Kept) × (made_marks made ≡ tape_of kept) ×
+    ensures ok { IfOk result (λ made. (kept : Kept) × (owned_marks made ≡ tape_of kept) ×
         Denotes (seen by.entry.types) by.entry.depth 129 of (value_view value.now)
         (value_of kept)) }
     ensures refused { IfErr result (IsWithin (length text.now)) }
 {
-    let mut made = JsonTape::new(by.alloc);
+    let mut made = OwnedTape::new(by.alloc);
     let mut trail = Trail::new(by.alloc, of);
     match read_value(by, MOST_DEPTH, of, value, &mut made, &mut trail) {
         Ok(()) => Ok(made),
@@ -171,7 +170,7 @@ fn made_from_text(
     of: usize,
     depth: usize,
     text: &str,
-) -> Result<JsonTape, FromJsonError>
+) -> Result<OwnedTape, FromJsonError>
     requires { is_sound schema.now.nodes.items ≡ true }
     ensures ok { IfOk result (IsMadeFrom schema.now depth of text.now) }
     ensures refused { IfErr result (IsWithin (length text.now)) }
@@ -205,7 +204,7 @@ pub fn tape_from_json(
     of: usize,
     depth: usize,
     octets: &[u8],
-) -> Result<JsonTape, FromJsonError>
+) -> Result<OwnedTape, FromJsonError>
     requires { is_sound schema.now.nodes.items ≡ true }
     ensures ok { IfOk result (IsMadeFrom schema.now depth of octets.now) }
     ensures refused { IfErr result (IsWithin (length octets.now)) }

@@ -1,37 +1,27 @@
 //! Whether the types of a table lead to places of the table alone.
-ghost use Rattle.std.specs.Prelude.{◌≡◌, ◌<◌, All, IfOk, length, true};
-ghost use Rattle.asn1_module.specs.Leads.{FieldsLead, KindLeads, LeadWithin, UnknownLeads};
+ghost use Rattle.std.specs.Prelude.{◌≡◌, IfOk, true};
+ghost use Rattle.asn1_module.specs.Leads.{are_places, fields_lead, kind_leads, lead_within, unknown_leads};
 
 use crate::mistake::{ModuleError, Place, Wrong};
 use asn1_schema::schema::{Field, Kind, Node};
 
 /// Whether each field is of a type at one of so many places.
 fn fields_lead(fields: &[Field], count: usize) -> bool
-    ensures { result ≡ true → FieldsLead count fields.now }
+    ensures { result ≡ fields_lead count fields.now }
 {
-    for field in fields {
-        if field.of >= count {
-            return false;
-        }
-    }
-    true
+    fields.iter().all(|field| field.of < count)
 }
 
 /// Whether each of these is one of so many places.
-fn arms_lead(arms: &[usize], count: usize) -> bool
-    ensures { result ≡ true → All (λ of. of < count) arms.now }
+fn are_places(places: &[usize], count: usize) -> bool
+    ensures { result ≡ are_places count places.now }
 {
-    for of in arms {
-        if *of >= count {
-            return false;
-        }
-    }
-    true
+    places.iter().all(|of| *of < count)
 }
 
 /// Whether the type of unknown elements, if there may be some, is at one of so many places.
 fn unknown_leads(unknown: Option<usize>, count: usize) -> bool
-    ensures { result ≡ true → UnknownLeads count unknown }
+    ensures { result ≡ unknown_leads count unknown }
 {
     match unknown {
         None => true,
@@ -41,7 +31,7 @@ fn unknown_leads(unknown: Option<usize>, count: usize) -> bool
 
 /// Whether what a type leads to is at one of so many places.
 fn kind_leads(kind: &Kind, count: usize) -> bool
-    ensures { result ≡ true → KindLeads count kind.now }
+    ensures { result ≡ kind_leads count kind.now }
 {
     match kind {
         Kind::Sequence(fields, unknown) => {
@@ -50,7 +40,7 @@ fn kind_leads(kind: &Kind, count: usize) -> bool
         Kind::Set(fields, unknown) => fields_lead(fields, count) && unknown_leads(*unknown, count),
         Kind::SequenceOf(of) => *of < count,
         Kind::SetOf(of) => *of < count,
-        Kind::Choice(arms) => arms_lead(arms, count),
+        Kind::Choice(arms) => are_places(arms, count),
         Kind::Explicit(of) => *of < count,
         Kind::Within(of, _, _) => *of < count,
         _ => true,
@@ -59,19 +49,15 @@ fn kind_leads(kind: &Kind, count: usize) -> bool
 
 /// Whether what each type of a table leads to is a place of the table.
 fn lead_within(nodes: &[Node]) -> bool
-    ensures { result ≡ true → LeadWithin nodes.now }
+    ensures { result ≡ lead_within nodes.now }
 {
-    for node in nodes {
-        if !kind_leads(&node.kind, nodes.len()) {
-            return false;
-        }
-    }
-    true
+    let count = nodes.len();
+    nodes.iter().all(|node| kind_leads(&node.kind, count))
 }
 
-/// Tells whether what each type of a table leads to is a place of the table, as it is in one that was built by calls.
+/// Refuses a table of which some type leads to a place that the table has not. None that was built by calls does.
 pub(crate) fn check_leads(nodes: &[Node]) -> Result<(), ModuleError>
-    ensures { IfOk result (λ _. LeadWithin nodes.now) }
+    ensures { IfOk result (λ _. lead_within nodes.now ≡ true) }
 {
     if lead_within(nodes) {
         return Ok(());

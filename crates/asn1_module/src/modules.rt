@@ -1,6 +1,6 @@
 //! Modules, read into a table.
 ghost use Rattle.std.specs.Prelude.{◌≡◌, ◌≢◌, ◌<◌, length, true, false, IfSome, IfNone, IfOk, IfErr, OnOk};
-ghost use Rattle.asn1_module.specs.Leads.{LeadWithin};
+ghost use Rattle.asn1_module.specs.Leads.{lead_within};
 ghost use Rattle.asn1_module.specs.Mistakes.{StandsWithin};
 ghost use Rattle.asn1_module.specs.Modules.{HavePlaces, IsTypeNamed, LacksType};
 
@@ -173,7 +173,7 @@ fn read_texts<'t>(
 ) -> Result<Modules<'t>, ModuleError>
     ensures places { IfOk result (λ modules.
         HavePlaces modules.types.items (length schema.new.nodes.items)) }
-    ensures leads { IfOk result (λ _. LeadWithin schema.new.nodes.items) }
+    ensures leads { IfOk result (λ _. lead_within schema.new.nodes.items ≡ true) }
 {
     let mut syntax = read_syntax(alloc, texts)?;
     let modules = make_types(alloc, &mut syntax, schema, notes)?;
@@ -193,7 +193,7 @@ pub fn read_modules<'t>(
     ensures mistake { IfErr result (StandsWithin texts.now) }
     ensures places { IfOk result (λ modules.
         HavePlaces modules.types.items (length schema.new.nodes.items)) }
-    ensures leads { IfOk result (λ _. LeadWithin schema.new.nodes.items) }
+    ensures leads { IfOk result (λ _. lead_within schema.new.nodes.items ≡ true) }
 {
     match read_texts(alloc, texts, schema, notes) {
         Ok(modules) => Ok(modules),

@@ -44,6 +44,10 @@ pub use crate::structs::flat::puts::{
     put1, put2, put3, put4, put5, put6, put7, put8, put9, put10, put11, put12, put13, put14, put15,
     put16,
 };
+pub use crate::structs::flat::rows::{
+    Row1, Row2, Row3, Row4, Row5, Row6, Row7, Row8, Row9, Row10, Row11, Row12, Row13, Row14, Row15,
+    Row16,
+};
 pub use crate::structs::keys::KeyType;
 pub use crate::structs::members::{MemberRow, MemberType};
 pub use crate::structs::numbers::ToldByNumber;

@@ -3,7 +3,7 @@ ghost use Rattle.asn1_rs.specs.Prelude.{by_der, part_of, PartGives, puts_of};
 ghost use Rattle.asn1_rs_certificates.specs.Certificates.{added_of};
 
 use crate::{Extensions, IssuerUniqueId, SubjectUniqueId, TbsCertificate};
-use asn1_rs::author::{BorrowedRow, Fields, ReadsRow, Row, row_by_der};
+use asn1_rs::author::{BorrowedRow, Fields, ReadsRow, Row, Row3, row_by_der};
 use asn1_rs::{DerParser, Error, SerializeResult};
 use std::alloc::Global;
 
@@ -16,10 +16,11 @@ pub struct Added<'a> {
 }
 
 /// Its fields.
-type AddedRow<'a> = (
+type AddedRow<'a> = Row3<
     Option<IssuerUniqueId<'a>>,
-    (Option<SubjectUniqueId<'a>>, (Option<Extensions<'a>>, ())),
-);
+    Option<SubjectUniqueId<'a>>,
+    Option<Extensions<'a>>,
+>;
 
 impl<'a> Row for Added<'a> {
     ghost row_laws = { part_of (λ x. (x.issuer_unique_id, (x.subject_unique_id, (x.extensions, tt))))

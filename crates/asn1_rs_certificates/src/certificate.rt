@@ -3,13 +3,13 @@ ghost use Rattle.asn1_rs.specs.Prelude.{IsWhole, MadeOf, ReadsByDer, refl, seen,
 
 use crate::TbsCertificate;
 use asn1_rs::author::{
-    BorrowedRow, Fields, FieldsKind, HasKind, HasReader, LawfulStruct, ReadsFields, ReadsRow, Row,
-    StructReader, row_by_der,
+    Fields, FieldsKind, HasKind, HasReader, LawfulStruct, ReadsFields, ReadsRow, Row, Row3,
+    StructReader,
 };
 use asn1_rs::laws::Grammar;
 use asn1_rs::{
-    BitString, DerParser, Error, FromDer, ParseResult, SerializeResult, ToDer, read_der,
-    read_der_whole, strict_vec,
+    BitString, DerParser, Error, FromDer, ParseResult, SerializeResult, ToDer, fields_in_hand,
+    put_fields, read_der, read_der_whole, read_fields, strict_vec,
 };
 use asn1_rs_messages::AlgorithmIdentifier;
 use std::alloc::Global;
@@ -28,10 +28,7 @@ pub struct Certificate<'a> {
 }
 
 /// Its fields.
-pub type CertificateRow<'a> = (
-    TbsCertificate<'a>,
-    (AlgorithmIdentifier<'a>, (BitString<'a>, ())),
-);
+pub type CertificateRow<'a> = Row3<TbsCertificate<'a>, AlgorithmIdentifier<'a>, BitString<'a>>;
 
 impl HasKind for Certificate<'_> {
     type Kind = FieldsKind;
@@ -46,13 +43,11 @@ impl<'a> LawfulStruct for Certificate<'a> {
         ⟦<CertificateRow<'a> as Row>⟧.row_laws refl };
 
     fn put_row(&self, fields: &mut Fields) -> SerializeResult<()> {
-        let signature = (&self.signature_algorithm, (&self.signature_value, ()));
-        (&self.tbs_certificate, signature).put_each(fields)
+        put_fields!(self, fields => tbs_certificate, signature_algorithm, signature_value)
     }
 
     fn row_in_hand(&self) {
-        let signature = (&self.signature_algorithm, (&self.signature_value, ()));
-        (&self.tbs_certificate, signature).each_in_hand()
+        fields_in_hand!(self => tbs_certificate, signature_algorithm, signature_value)
     }
 }
 
@@ -61,17 +56,9 @@ impl<'a> ReadsFields<'a> for Certificate<'a> {
         ⟦<CertificateRow<'a> as ReadsRow<'a, DerParser>>⟧.row_gives };
 
     fn read_fields(alloc: Global, octets: &'a [u8]) -> Result<Certificate<'a>, Error> {
-        match row_by_der(alloc, octets) {
-            Ok(row) => {
-                let (tbs_certificate, (signature_algorithm, (signature_value, ()))) = row;
-                Ok(Certificate {
-                    tbs_certificate,
-                    signature_algorithm,
-                    signature_value,
-                })
-            }
-            Err(e) => Err(e),
-        }
+        read_fields!(row_by_der, alloc, octets => Certificate {
+            tbs_certificate, signature_algorithm, signature_value
+        })
     }
 }
 

@@ -4,10 +4,12 @@ ghost use Rattle.asn1_rs.specs.Prelude.{MadeOf, parts_of, refl, struct_of};
 ghost use Rattle.asn1_rs.specs.Any.Text.{utf8_checks};
 
 use asn1_rs::author::{
-    BorrowedRow, Fields, FieldsKind, HasKind, HasReader, LawfulStruct, ReadsFields, ReadsRow, Row,
-    StructReader, row_by_der,
+    Fields, FieldsKind, HasKind, HasReader, LawfulStruct, ReadsFields, ReadsRow, Row, Row2,
+    StructReader,
 };
-use asn1_rs::{Any, DerParser, Error, Oid, SerializeResult, SetOf};
+use asn1_rs::{
+    Any, DerParser, Error, Oid, SerializeResult, SetOf, fields_in_hand, put_fields, read_fields,
+};
 use std::alloc::Global;
 
 /// A name: sets of attributes, from the root of the directory on.
@@ -27,7 +29,7 @@ pub struct Attribute<'a> {
 }
 
 /// Its fields.
-pub type AttributeRow<'a> = (Oid<'a>, (Any<'a>, ()));
+pub type AttributeRow<'a> = Row2<Oid<'a>, Any<'a>>;
 
 impl HasKind for Attribute<'_> {
     type Kind = FieldsKind;
@@ -42,11 +44,11 @@ impl<'a> LawfulStruct for Attribute<'a> {
         ⟦<AttributeRow<'a> as Row>⟧.row_laws refl };
 
     fn put_row(&self, fields: &mut Fields) -> SerializeResult<()> {
-        (&self.kind, (&self.value, ())).put_each(fields)
+        put_fields!(self, fields => kind, value)
     }
 
     fn row_in_hand(&self) {
-        (&self.kind, (&self.value, ())).each_in_hand()
+        fields_in_hand!(self => kind, value)
     }
 }
 
@@ -55,13 +57,7 @@ impl<'a> ReadsFields<'a> for Attribute<'a> {
         ⟦<AttributeRow<'a> as ReadsRow<'a, DerParser>>⟧.row_gives };
 
     fn read_fields(alloc: Global, octets: &'a [u8]) -> Result<Attribute<'a>, Error> {
-        match row_by_der(alloc, octets) {
-            Ok(row) => {
-                let (kind, (value, ())) = row;
-                Ok(Attribute { kind, value })
-            }
-            Err(e) => Err(e),
-        }
+        read_fields!(row_by_der, alloc, octets => Attribute { kind, value })
     }
 }
 

@@ -3,7 +3,7 @@ ghost use Rattle.asn1_rs.specs.Prelude.{by_der, part_of, PartGives, puts_of};
 ghost use Rattle.asn1_rs_kerberos.specs.Requests.{asked_of};
 
 use crate::{EncryptedData, HostAddress, KdcReqBody, Ticket, Under};
-use asn1_rs::author::{BorrowedRow, Fields, ReadsRow, Row, row_by_der};
+use asn1_rs::author::{BorrowedRow, Fields, ReadsRow, Row, Row3, row_by_der};
 use asn1_rs::{DerParser, Error, GeneralizedTime, SerializeResult};
 use std::alloc::Global;
 
@@ -25,13 +25,11 @@ type AskedRow<'a> = (
 );
 
 /// Those from the addresses on.
-type AddedRow<'a> = (
+type AddedRow<'a> = Row3<
     Option<Under<Vec<HostAddress<'a>>, 9>>,
-    (
-        Option<Under<EncryptedData<'a>, 10>>,
-        (Option<Under<Vec<Ticket<'a>>, 11>>, ()),
-    ),
-);
+    Option<Under<EncryptedData<'a>, 10>>,
+    Option<Under<Vec<Ticket<'a>>, 11>>,
+>;
 
 impl<'a> Row for Asked<'a> {
     ghost row_laws = { part_of (λ x. (

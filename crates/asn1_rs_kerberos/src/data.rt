@@ -3,10 +3,12 @@ ghost use Rattle.asn1_rs.specs.Prelude.{MadeOf, refl, struct_of};
 
 use crate::Under;
 use asn1_rs::author::{
-    BorrowedRow, Fields, FieldsKind, HasKind, HasReader, LawfulStruct, ReadsFields, ReadsRow, Row,
-    StructReader, row_by_der,
+    Fields, FieldsKind, HasKind, HasReader, LawfulStruct, ReadsFields, ReadsRow, Row, Row2, Row3,
+    StructReader,
 };
-use asn1_rs::{DerParser, Error, OctetString, SerializeResult};
+use asn1_rs::{
+    DerParser, Error, OctetString, SerializeResult, fields_in_hand, put_fields, read_fields,
+};
 use std::alloc::Global;
 
 /// Data for the authentication, of a type that says what its octets are (5.2.7).
@@ -21,7 +23,7 @@ pub struct PaData<'a> {
 }
 
 /// Its fields.
-pub type PaDataRow<'a> = (Under<i32, 1>, (Under<OctetString<'a>, 2>, ()));
+pub type PaDataRow<'a> = Row2<Under<i32, 1>, Under<OctetString<'a>, 2>>;
 
 impl HasKind for PaData<'_> {
     type Kind = FieldsKind;
@@ -36,11 +38,11 @@ impl<'a> LawfulStruct for PaData<'a> {
         ⟦<PaDataRow<'a> as Row>⟧.row_laws refl };
 
     fn put_row(&self, fields: &mut Fields) -> SerializeResult<()> {
-        (&self.padata_type, (&self.padata_value, ())).put_each(fields)
+        put_fields!(self, fields => padata_type, padata_value)
     }
 
     fn row_in_hand(&self) {
-        (&self.padata_type, (&self.padata_value, ())).each_in_hand()
+        fields_in_hand!(self => padata_type, padata_value)
     }
 }
 
@@ -49,16 +51,7 @@ impl<'a> ReadsFields<'a> for PaData<'a> {
         ⟦<PaDataRow<'a> as ReadsRow<'a, DerParser>>⟧.row_gives };
 
     fn read_fields(alloc: Global, octets: &'a [u8]) -> Result<PaData<'a>, Error> {
-        match row_by_der(alloc, octets) {
-            Ok(row) => {
-                let (padata_type, (padata_value, ())) = row;
-                Ok(PaData {
-                    padata_type,
-                    padata_value,
-                })
-            }
-            Err(e) => Err(e),
-        }
+        read_fields!(row_by_der, alloc, octets => PaData { padata_type, padata_value })
     }
 }
 
@@ -74,7 +67,7 @@ pub struct HostAddress<'a> {
 }
 
 /// Its fields.
-pub type HostAddressRow<'a> = (Under<i32, 0>, (Under<OctetString<'a>, 1>, ()));
+pub type HostAddressRow<'a> = Row2<Under<i32, 0>, Under<OctetString<'a>, 1>>;
 
 impl HasKind for HostAddress<'_> {
     type Kind = FieldsKind;
@@ -89,11 +82,11 @@ impl<'a> LawfulStruct for HostAddress<'a> {
         ⟦<HostAddressRow<'a> as Row>⟧.row_laws refl };
 
     fn put_row(&self, fields: &mut Fields) -> SerializeResult<()> {
-        (&self.addr_type, (&self.address, ())).put_each(fields)
+        put_fields!(self, fields => addr_type, address)
     }
 
     fn row_in_hand(&self) {
-        (&self.addr_type, (&self.address, ())).each_in_hand()
+        fields_in_hand!(self => addr_type, address)
     }
 }
 
@@ -102,13 +95,7 @@ impl<'a> ReadsFields<'a> for HostAddress<'a> {
         ⟦<HostAddressRow<'a> as ReadsRow<'a, DerParser>>⟧.row_gives };
 
     fn read_fields(alloc: Global, octets: &'a [u8]) -> Result<HostAddress<'a>, Error> {
-        match row_by_der(alloc, octets) {
-            Ok(row) => {
-                let (addr_type, (address, ())) = row;
-                Ok(HostAddress { addr_type, address })
-            }
-            Err(e) => Err(e),
-        }
+        read_fields!(row_by_der, alloc, octets => HostAddress { addr_type, address })
     }
 }
 
@@ -126,10 +113,11 @@ pub struct EncryptedData<'a> {
 }
 
 /// Its fields.
-pub type EncryptedDataRow<'a> = (
+pub type EncryptedDataRow<'a> = Row3<
     Under<i32, 0>,
-    (Option<Under<u32, 1>>, (Under<OctetString<'a>, 2>, ())),
-);
+    Option<Under<u32, 1>>,
+    Under<OctetString<'a>, 2>,
+>;
 
 impl HasKind for EncryptedData<'_> {
     type Kind = FieldsKind;
@@ -144,11 +132,11 @@ impl<'a> LawfulStruct for EncryptedData<'a> {
         ⟦<EncryptedDataRow<'a> as Row>⟧.row_laws refl };
 
     fn put_row(&self, fields: &mut Fields) -> SerializeResult<()> {
-        (&self.etype, (&self.kvno, (&self.cipher, ()))).put_each(fields)
+        put_fields!(self, fields => etype, kvno, cipher)
     }
 
     fn row_in_hand(&self) {
-        (&self.etype, (&self.kvno, (&self.cipher, ()))).each_in_hand()
+        fields_in_hand!(self => etype, kvno, cipher)
     }
 }
 
@@ -157,16 +145,6 @@ impl<'a> ReadsFields<'a> for EncryptedData<'a> {
         ⟦<EncryptedDataRow<'a> as ReadsRow<'a, DerParser>>⟧.row_gives };
 
     fn read_fields(alloc: Global, octets: &'a [u8]) -> Result<EncryptedData<'a>, Error> {
-        match row_by_der(alloc, octets) {
-            Ok(row) => {
-                let (etype, (kvno, (cipher, ()))) = row;
-                Ok(EncryptedData {
-                    etype,
-                    kvno,
-                    cipher,
-                })
-            }
-            Err(e) => Err(e),
-        }
+        read_fields!(row_by_der, alloc, octets => EncryptedData { etype, kvno, cipher })
     }
 }

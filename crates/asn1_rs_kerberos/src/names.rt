@@ -3,10 +3,12 @@ ghost use Rattle.asn1_rs.specs.Prelude.{MadeOf, refl, struct_of};
 
 use crate::Under;
 use asn1_rs::author::{
-    BorrowedRow, Fields, FieldsKind, HasKind, HasReader, LawfulStruct, ReadsFields, ReadsRow, Row,
-    StructReader, row_by_der,
+    Fields, FieldsKind, HasKind, HasReader, LawfulStruct, ReadsFields, ReadsRow, Row, Row2,
+    StructReader,
 };
-use asn1_rs::{DerParser, Error, GeneralString, SerializeResult};
+use asn1_rs::{
+    DerParser, Error, GeneralString, SerializeResult, fields_in_hand, put_fields, read_fields,
+};
 use std::alloc::Global;
 
 /// The name of a client or of a service.
@@ -21,7 +23,7 @@ pub struct PrincipalName<'a> {
 }
 
 /// Its fields.
-pub type PrincipalNameRow<'a> = (Under<i32, 0>, (Under<Vec<GeneralString<'a>>, 1>, ()));
+pub type PrincipalNameRow<'a> = Row2<Under<i32, 0>, Under<Vec<GeneralString<'a>>, 1>>;
 
 impl HasKind for PrincipalName<'_> {
     type Kind = FieldsKind;
@@ -36,11 +38,11 @@ impl<'a> LawfulStruct for PrincipalName<'a> {
         ⟦<PrincipalNameRow<'a> as Row>⟧.row_laws refl };
 
     fn put_row(&self, fields: &mut Fields) -> SerializeResult<()> {
-        (&self.name_type, (&self.name_string, ())).put_each(fields)
+        put_fields!(self, fields => name_type, name_string)
     }
 
     fn row_in_hand(&self) {
-        (&self.name_type, (&self.name_string, ())).each_in_hand()
+        fields_in_hand!(self => name_type, name_string)
     }
 }
 
@@ -49,15 +51,6 @@ impl<'a> ReadsFields<'a> for PrincipalName<'a> {
         ⟦<PrincipalNameRow<'a> as ReadsRow<'a, DerParser>>⟧.row_gives };
 
     fn read_fields(alloc: Global, octets: &'a [u8]) -> Result<PrincipalName<'a>, Error> {
-        match row_by_der(alloc, octets) {
-            Ok(row) => {
-                let (name_type, (name_string, ())) = row;
-                Ok(PrincipalName {
-                    name_type,
-                    name_string,
-                })
-            }
-            Err(e) => Err(e),
-        }
+        read_fields!(row_by_der, alloc, octets => PrincipalName { name_type, name_string })
     }
 }

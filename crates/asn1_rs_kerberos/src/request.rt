@@ -5,13 +5,13 @@ ghost use Rattle.asn1_rs_kerberos.specs.Requests.{IsAsReq, IsNoAsReq};
 
 use crate::{KdcReqBody, PaData, Under};
 use asn1_rs::author::{
-    BorrowedRow, Fields, FieldsKind, HasKind, HasReader, LawfulStruct, ReadsFields, ReadsRow, Row,
-    StructReader, row_by_der,
+    Fields, FieldsKind, HasKind, HasReader, LawfulStruct, ReadsFields, ReadsRow, Row, Row4,
+    StructReader,
 };
 use asn1_rs::laws::Grammar;
 use asn1_rs::{
-    ApplicationExplicit, DerParser, Error, ParseResult, SerializeResult, Tag, ToDer, read_der,
-    strict_vec,
+    ApplicationExplicit, DerParser, Error, ParseResult, SerializeResult, Tag, ToDer,
+    fields_in_hand, put_fields, read_der, read_fields, strict_vec,
 };
 use std::alloc::Global;
 
@@ -34,16 +34,12 @@ pub struct KdcReq<'a> {
 }
 
 /// Its fields.
-pub type KdcReqRow<'a> = (
+pub type KdcReqRow<'a> = Row4<
     Under<u8, 1>,
-    (
-        Under<u8, 2>,
-        (
-            Option<Under<Vec<PaData<'a>>, 3>>,
-            (Under<KdcReqBody<'a>, 4>, ()),
-        ),
-    ),
-);
+    Under<u8, 2>,
+    Option<Under<Vec<PaData<'a>>, 3>>,
+    Under<KdcReqBody<'a>, 4>,
+>;
 
 impl HasKind for KdcReq<'_> {
     type Kind = FieldsKind;
@@ -58,19 +54,11 @@ impl<'a> LawfulStruct for KdcReq<'a> {
         ⟦<KdcReqRow<'a> as Row>⟧.row_laws refl };
 
     fn put_row(&self, fields: &mut Fields) -> SerializeResult<()> {
-        (
-            &self.pvno,
-            (&self.msg_type, (&self.padata, (&self.req_body, ()))),
-        )
-            .put_each(fields)
+        put_fields!(self, fields => pvno, msg_type, padata, req_body)
     }
 
     fn row_in_hand(&self) {
-        (
-            &self.pvno,
-            (&self.msg_type, (&self.padata, (&self.req_body, ()))),
-        )
-            .each_in_hand()
+        fields_in_hand!(self => pvno, msg_type, padata, req_body)
     }
 }
 
@@ -79,18 +67,7 @@ impl<'a> ReadsFields<'a> for KdcReq<'a> {
         ⟦<KdcReqRow<'a> as ReadsRow<'a, DerParser>>⟧.row_gives };
 
     fn read_fields(alloc: Global, octets: &'a [u8]) -> Result<KdcReq<'a>, Error> {
-        match row_by_der(alloc, octets) {
-            Ok(row) => {
-                let (pvno, (msg_type, (padata, (req_body, ())))) = row;
-                Ok(KdcReq {
-                    pvno,
-                    msg_type,
-                    padata,
-                    req_body,
-                })
-            }
-            Err(e) => Err(e),
-        }
+        read_fields!(row_by_der, alloc, octets => KdcReq { pvno, msg_type, padata, req_body })
     }
 }
 

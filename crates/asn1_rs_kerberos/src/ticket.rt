@@ -3,10 +3,13 @@ ghost use Rattle.asn1_rs.specs.Prelude.{MadeOf, refl, struct_of};
 
 use crate::{EncryptedData, PrincipalName, Under};
 use asn1_rs::author::{
-    BorrowedRow, Fields, FieldsKind, HasKind, HasReader, LawfulStruct, ReadsFields, ReadsRow, Row,
-    StructReader, row_by_der,
+    Fields, FieldsKind, HasKind, HasReader, LawfulStruct, ReadsFields, ReadsRow, Row, Row4,
+    StructReader,
 };
-use asn1_rs::{ApplicationExplicit, DerParser, Error, GeneralString, SerializeResult};
+use asn1_rs::{
+    ApplicationExplicit, DerParser, Error, GeneralString, SerializeResult, fields_in_hand,
+    put_fields, read_fields,
+};
 use std::alloc::Global;
 
 /// A ticket: `Ticket ::= [APPLICATION 1] SEQUENCE { .. }`.
@@ -28,16 +31,12 @@ pub struct TicketFields<'a> {
 }
 
 /// Its fields.
-pub type TicketRow<'a> = (
+pub type TicketRow<'a> = Row4<
     Under<u8, 0>,
-    (
-        Under<GeneralString<'a>, 1>,
-        (
-            Under<PrincipalName<'a>, 2>,
-            (Under<EncryptedData<'a>, 3>, ()),
-        ),
-    ),
-);
+    Under<GeneralString<'a>, 1>,
+    Under<PrincipalName<'a>, 2>,
+    Under<EncryptedData<'a>, 3>,
+>;
 
 impl HasKind for TicketFields<'_> {
     type Kind = FieldsKind;
@@ -52,19 +51,11 @@ impl<'a> LawfulStruct for TicketFields<'a> {
         ⟦<TicketRow<'a> as Row>⟧.row_laws refl };
 
     fn put_row(&self, fields: &mut Fields) -> SerializeResult<()> {
-        (
-            &self.tkt_vno,
-            (&self.realm, (&self.sname, (&self.enc_part, ()))),
-        )
-            .put_each(fields)
+        put_fields!(self, fields => tkt_vno, realm, sname, enc_part)
     }
 
     fn row_in_hand(&self) {
-        (
-            &self.tkt_vno,
-            (&self.realm, (&self.sname, (&self.enc_part, ()))),
-        )
-            .each_in_hand()
+        fields_in_hand!(self => tkt_vno, realm, sname, enc_part)
     }
 }
 
@@ -73,17 +64,6 @@ impl<'a> ReadsFields<'a> for TicketFields<'a> {
         ⟦<TicketRow<'a> as ReadsRow<'a, DerParser>>⟧.row_gives };
 
     fn read_fields(alloc: Global, octets: &'a [u8]) -> Result<TicketFields<'a>, Error> {
-        match row_by_der(alloc, octets) {
-            Ok(row) => {
-                let (tkt_vno, (realm, (sname, (enc_part, ())))) = row;
-                Ok(TicketFields {
-                    tkt_vno,
-                    realm,
-                    sname,
-                    enc_part,
-                })
-            }
-            Err(e) => Err(e),
-        }
+        read_fields!(row_by_der, alloc, octets => TicketFields { tkt_vno, realm, sname, enc_part })
     }
 }

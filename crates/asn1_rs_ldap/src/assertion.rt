@@ -8,9 +8,12 @@ use crate::Octets;
 use crate::matching::{ComparedValue, ComparedValueOf};
 use asn1_rs::author::{
     BorrowedRow, DefaultOf, Fields, FieldsKind, HasKind, HasReader, LawfulStruct, ReadsFieldsByBer,
-    ReadsRow, Row, StructReader, row_by_ber,
+    ReadsRow, Row, Row2, StructReader,
 };
-use asn1_rs::{BerParser, Defaulted, Error, OctetString, SerializeResult, TaggedImplicit};
+use asn1_rs::{
+    BerParser, Defaulted, Error, OctetString, SerializeResult, TaggedImplicit, fields_in_hand,
+    put_fields,
+};
 use std::alloc::Global;
 
 /// That an attribute has a value, or one that stands in an order to it.
@@ -25,7 +28,7 @@ pub struct AttributeValueAssertion<'a> {
 }
 
 /// Its fields.
-pub type AttributeValueRow<'a> = (OctetString<'a>, (OctetString<'a>, ()));
+pub type AttributeValueRow<'a> = Row2<OctetString<'a>, OctetString<'a>>;
 
 impl HasKind for AttributeValueAssertion<'_> {
     type Kind = FieldsKind;
@@ -40,11 +43,11 @@ impl<'a> LawfulStruct for AttributeValueAssertion<'a> {
         ⟦<AttributeValueRow<'a> as Row>⟧.row_laws refl };
 
     fn put_row(&self, fields: &mut Fields) -> SerializeResult<()> {
-        (&self.attribute, (&self.value, ())).put_each(fields)
+        put_fields!(self, fields => attribute, value)
     }
 
     fn row_in_hand(&self) {
-        (&self.attribute, (&self.value, ())).each_in_hand()
+        fields_in_hand!(self => attribute, value)
     }
 }
 

@@ -3,10 +3,13 @@ ghost use Rattle.asn1_rs.specs.Prelude.{MadeOf};
 ghost use Rattle.asn1_rs_ldap.specs.Controls.{control_laws};
 
 use asn1_rs::author::{
-    BorrowedRow, Fields, FieldsKind, HasKind, HasReader, LawfulStruct, ReadsFieldsByBer, ReadsRow,
-    StructReader, row_by_ber,
+    Fields, FieldsKind, HasKind, HasReader, LawfulStruct, ReadsFieldsByBer, ReadsRow, Row3,
+    StructReader,
 };
-use asn1_rs::{BerParser, DefaultFalse, Defaulted, Error, OctetString, SerializeResult};
+use asn1_rs::{
+    BerParser, DefaultFalse, Defaulted, Error, OctetString, SerializeResult, fields_in_hand,
+    put_fields, read_fields,
+};
 use std::alloc::Global;
 
 /// An extension of an operation, whose type is an identifier in dotted form.
@@ -23,10 +26,11 @@ pub struct Control<'a> {
 }
 
 /// Its fields.
-pub type ControlRow<'a> = (
+pub type ControlRow<'a> = Row3<
     OctetString<'a>,
-    (Defaulted<bool, DefaultFalse>, (Option<OctetString<'a>>, ())),
-);
+    Defaulted<bool, DefaultFalse>,
+    Option<OctetString<'a>>,
+>;
 
 impl HasKind for Control<'_> {
     type Kind = FieldsKind;
@@ -41,11 +45,11 @@ impl<'a> LawfulStruct for Control<'a> {
     ghost laws = { control_laws };
 
     fn put_row(&self, fields: &mut Fields) -> SerializeResult<()> {
-        (&self.control_type, (&self.criticality, (&self.value, ()))).put_each(fields)
+        put_fields!(self, fields => control_type, criticality, value)
     }
 
     fn row_in_hand(&self) {
-        (&self.control_type, (&self.criticality, (&self.value, ()))).each_in_hand()
+        fields_in_hand!(self => control_type, criticality, value)
     }
 }
 
@@ -55,16 +59,6 @@ impl<'a> ReadsFieldsByBer<'a> for Control<'a> {
         ⟦<ControlRow<'a> as ReadsRow<'a, BerParser>>⟧.row_gives };
 
     fn read_fields_by_ber(alloc: Global, octets: &'a [u8]) -> Result<Control<'a>, Error> {
-        match row_by_ber(alloc, octets) {
-            Ok(row) => {
-                let (control_type, (criticality, (value, ()))) = row;
-                Ok(Control {
-                    control_type,
-                    criticality,
-                    value,
-                })
-            }
-            Err(e) => Err(e),
-        }
+        read_fields!(row_by_ber, alloc, octets => Control { control_type, criticality, value })
     }
 }

@@ -4,7 +4,7 @@ ghost use Rattle.asn1_rs_ldap.specs.Endings.{compared_of};
 
 use crate::Octets;
 use crate::assertion::{DnAttributes, MatchingRuleAssertion, NotOfTheName};
-use asn1_rs::author::{BorrowedRow, Fields, ReadsRow, Row, row_by_ber};
+use asn1_rs::author::{BorrowedRow, Fields, ReadsRow, Row, Row2, row_by_ber};
 use asn1_rs::{BerParser, Defaulted, Error, SerializeResult};
 use std::alloc::Global;
 
@@ -16,7 +16,7 @@ pub struct ComparedValue<'a> {
 }
 
 /// Its fields.
-type ComparedFields<'a> = (Octets<'a, 3>, (Defaulted<DnAttributes, NotOfTheName>, ()));
+type ComparedFields<'a> = Row2<Octets<'a, 3>, Defaulted<DnAttributes, NotOfTheName>>;
 
 impl<'a> Row for ComparedValue<'a> {
     ghost row_laws = { part_of (λ x. (x.value, (x.dn_attributes, tt)))

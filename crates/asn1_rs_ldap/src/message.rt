@@ -5,13 +5,13 @@ ghost use Rattle.asn1_rs_ldap.specs.Messages.{message_laws};
 use crate::control::Control;
 use crate::operation::Operation;
 use asn1_rs::author::{
-    BorrowedRow, Fields, FieldsKind, HasKind, HasReader, LawfulStruct, ReadsFieldsByBer, ReadsRow,
-    StructReader, row_by_ber,
+    Fields, FieldsKind, HasKind, HasReader, LawfulStruct, ReadsFieldsByBer, ReadsRow, Row3,
+    StructReader,
 };
 use asn1_rs::laws::Grammar;
 use asn1_rs::{
-    BerParser, Error, FromBer, ParseResult, SerializeResult, TaggedImplicit, ToDer, read_ber,
-    read_ber_whole, strict_vec,
+    BerParser, Error, FromBer, ParseResult, SerializeResult, TaggedImplicit, ToDer, fields_in_hand,
+    put_fields, read_ber, read_ber_whole, read_fields, strict_vec,
 };
 use std::alloc::Global;
 
@@ -32,7 +32,7 @@ pub struct Message<'a> {
 pub type Controls<'a> = TaggedImplicit<Vec<Control<'a>>, Error, 0>;
 
 /// Its fields.
-pub type MessageRow<'a> = (u32, (Operation<'a>, (Option<Controls<'a>>, ())));
+pub type MessageRow<'a> = Row3<u32, Operation<'a>, Option<Controls<'a>>>;
 
 impl HasKind for Message<'_> {
     type Kind = FieldsKind;
@@ -47,11 +47,11 @@ impl<'a> LawfulStruct for Message<'a> {
     ghost laws = { message_laws };
 
     fn put_row(&self, fields: &mut Fields) -> SerializeResult<()> {
-        (&self.id, (&self.operation, (&self.controls, ()))).put_each(fields)
+        put_fields!(self, fields => id, operation, controls)
     }
 
     fn row_in_hand(&self) {
-        (&self.id, (&self.operation, (&self.controls, ()))).each_in_hand()
+        fields_in_hand!(self => id, operation, controls)
     }
 }
 
@@ -61,17 +61,7 @@ impl<'a> ReadsFieldsByBer<'a> for Message<'a> {
         ⟦<MessageRow<'a> as ReadsRow<'a, BerParser>>⟧.row_gives };
 
     fn read_fields_by_ber(alloc: Global, octets: &'a [u8]) -> Result<Message<'a>, Error> {
-        match row_by_ber(alloc, octets) {
-            Ok(row) => {
-                let (id, (operation, (controls, ()))) = row;
-                Ok(Message {
-                    id,
-                    operation,
-                    controls,
-                })
-            }
-            Err(e) => Err(e),
-        }
+        read_fields!(row_by_ber, alloc, octets => Message { id, operation, controls })
     }
 }
 

@@ -5,11 +5,14 @@ ghost use Rattle.asn1_rs_ldap.specs.declared.substrings.Substring.TheVariants as
 
 use crate::Octets;
 use asn1_rs::author::{
-    Arms, BorrowedRow, ChoiceKind, ChoiceReader, Fields, FieldsKind, HasKind, HasReader,
-    LawfulChoice, LawfulStruct, LawfulType, Never, OfArms, Or, OrTagged, ReadsChoiceByBer,
-    ReadsFieldsByBer, ReadsRow, Row, StructReader, UsesArm, choice_of_element, row_by_ber,
+    Arms, ChoiceKind, ChoiceReader, Fields, FieldsKind, HasKind, HasReader, LawfulChoice,
+    LawfulStruct, LawfulType, Never, OfArms, Or, OrTagged, ReadsChoiceByBer, ReadsFieldsByBer,
+    ReadsRow, Row, Row2, StructReader, UsesArm, choice_of_element,
 };
-use asn1_rs::{Any, BerParser, DynTagged, Error, OctetString, SerializeResult, Tag};
+use asn1_rs::{
+    Any, BerParser, DynTagged, Error, OctetString, SerializeResult, Tag, fields_in_hand,
+    put_fields, read_fields,
+};
 use std::alloc::Global;
 
 /// A part of a text, and where it stands.
@@ -114,7 +117,7 @@ pub struct SubstringFilter<'a> {
 }
 
 /// Its fields.
-pub type SubstringFilterRow<'a> = (OctetString<'a>, (Vec<Substring<'a>>, ()));
+pub type SubstringFilterRow<'a> = Row2<OctetString<'a>, Vec<Substring<'a>>>;
 
 impl HasKind for SubstringFilter<'_> {
     type Kind = FieldsKind;
@@ -129,11 +132,11 @@ impl<'a> LawfulStruct for SubstringFilter<'a> {
         ⟦<SubstringFilterRow<'a> as Row>⟧.row_laws refl };
 
     fn put_row(&self, fields: &mut Fields) -> SerializeResult<()> {
-        (&self.attribute, (&self.substrings, ())).put_each(fields)
+        put_fields!(self, fields => attribute, substrings)
     }
 
     fn row_in_hand(&self) {
-        (&self.attribute, (&self.substrings, ())).each_in_hand()
+        fields_in_hand!(self => attribute, substrings)
     }
 }
 
@@ -142,15 +145,6 @@ impl<'a> ReadsFieldsByBer<'a> for SubstringFilter<'a> {
         ⟦<SubstringFilterRow<'a> as ReadsRow<'a, BerParser>>⟧.row_gives };
 
     fn read_fields_by_ber(alloc: Global, octets: &'a [u8]) -> Result<SubstringFilter<'a>, Error> {
-        match row_by_ber::<SubstringFilterRow<'a>>(alloc, octets) {
-            Ok(row) => {
-                let (attribute, (substrings, ())) = row;
-                Ok(SubstringFilter {
-                    attribute,
-                    substrings,
-                })
-            }
-            Err(e) => Err(e),
-        }
+        read_fields!(row_by_ber, alloc, octets => SubstringFilter { attribute, substrings })
     }
 }

@@ -3,7 +3,7 @@ ghost use Rattle.asn1_rs.specs.Prelude.{by_ber, part_of, PartGives, puts_of};
 ghost use Rattle.asn1_rs_ldap.specs.Endings.{wanted_of};
 
 use crate::{Filter, SearchRequest};
-use asn1_rs::author::{BorrowedRow, Fields, ReadsRow, Row, row_by_ber};
+use asn1_rs::author::{BorrowedRow, Fields, ReadsRow, Row, Row3, row_by_ber};
 use asn1_rs::{BerParser, Error, OctetString, SerializeResult};
 use std::alloc::Global;
 
@@ -16,7 +16,7 @@ pub struct Wanted<'a> {
 }
 
 /// Its fields.
-type WantedFields<'a> = (bool, (Filter<'a>, (Vec<OctetString<'a>>, ())));
+type WantedFields<'a> = Row3<bool, Filter<'a>, Vec<OctetString<'a>>>;
 
 impl<'a> Row for Wanted<'a> {
     ghost row_laws = { part_of (λ x. (x.types_only, (x.filter, (x.attributes, tt))))

@@ -1,8 +1,8 @@
 //! A struct whose optional field has another tag number than the field behind it. The laws of the struct ask for that.
 ghost use Rattle.asn1_rs.specs.Prelude.{refl, struct_of};
 
-use asn1_rs::SerializeResult;
-use asn1_rs::author::{BorrowedRow, Fields, FieldsKind, HasKind, LawfulStruct, Row};
+use asn1_rs::author::{Fields, FieldsKind, HasKind, LawfulStruct, Row, Row2};
+use asn1_rs::{SerializeResult, fields_in_hand, put_fields};
 
 /// A level, before which a flag may stand.
 ///
@@ -14,7 +14,7 @@ pub struct Flagged {
 }
 
 /// Its fields.
-pub type FlaggedRow = (Option<bool>, (u8, ()));
+pub type FlaggedRow = Row2<Option<bool>, u8>;
 
 impl HasKind for Flagged {
     type Kind = FieldsKind;
@@ -26,10 +26,10 @@ impl LawfulStruct for Flagged {
     ghost laws = { struct_of (λ x. (x.flag, (x.level, tt))) ⟦<FlaggedRow as Row>⟧.row_laws refl };
 
     fn put_row(&self, fields: &mut Fields) -> SerializeResult<()> {
-        (&self.flag, (&self.level, ())).put_each(fields)
+        put_fields!(self, fields => flag, level)
     }
 
     fn row_in_hand(&self) {
-        (&self.flag, (&self.level, ())).each_in_hand()
+        fields_in_hand!(self => flag, level)
     }
 }

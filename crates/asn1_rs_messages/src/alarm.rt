@@ -2,13 +2,13 @@
 ghost use Rattle.asn1_rs.specs.Prelude.{MadeOf, ReadsByBer, ReadsByDer, refl, seen, struct_of, WritesStrict};
 
 use asn1_rs::author::{
-    AlwaysDerBy, BorrowedRow, DerRow, Fields, FieldsKind, HasKind, HasReader, LawfulStruct,
-    ReadsFields, ReadsFieldsByBer, ReadsRow, Row, StructReader, row_by_ber, row_by_der,
+    AlwaysDerBy, Fields, FieldsKind, HasKind, HasReader, LawfulStruct, ReadsFields,
+    ReadsFieldsByBer, ReadsRow, Row, Row4, StructReader,
 };
 use asn1_rs::laws::{AlwaysDer, Grammar};
 use asn1_rs::{
-    BerParser, DerParser, Error, ParseResult, SerializeResult, TaggedExplicit, ToDer, read_ber,
-    read_der, strict_vec,
+    BerParser, DerParser, Error, ParseResult, SerializeResult, TaggedExplicit, ToDer,
+    fields_in_der, fields_in_hand, put_fields, read_ber, read_der, read_fields, strict_vec,
 };
 use std::alloc::Global;
 
@@ -31,7 +31,7 @@ pub struct Alarm {
 pub type Muted = TaggedExplicit<bool, Error, 0>;
 
 /// Its fields.
-pub type AlarmRow = (u8, (Option<Muted>, (Option<bool>, (Vec<u16>, ()))));
+pub type AlarmRow = Row4<u8, Option<Muted>, Option<bool>, Vec<u16>>;
 
 impl HasKind for Alarm {
     type Kind = FieldsKind;
@@ -46,19 +46,11 @@ impl LawfulStruct for Alarm {
         ⟦<AlarmRow as Row>⟧.row_laws refl };
 
     fn put_row(&self, fields: &mut Fields) -> SerializeResult<()> {
-        (
-            &self.level,
-            (&self.muted, (&self.urgent, (&self.rooms, ()))),
-        )
-            .put_each(fields)
+        put_fields!(self, fields => level, muted, urgent, rooms)
     }
 
     fn row_in_hand(&self) {
-        (
-            &self.level,
-            (&self.muted, (&self.urgent, (&self.rooms, ()))),
-        )
-            .each_in_hand()
+        fields_in_hand!(self => level, muted, urgent, rooms)
     }
 }
 
@@ -67,18 +59,7 @@ impl<'a> ReadsFields<'a> for Alarm {
         ⟦<AlarmRow as ReadsRow<'a, DerParser>>⟧.row_gives };
 
     fn read_fields(alloc: Global, octets: &'a [u8]) -> Result<Alarm, Error> {
-        match row_by_der(alloc, octets) {
-            Ok(row) => {
-                let (level, (muted, (urgent, (rooms, ())))) = row;
-                Ok(Alarm {
-                    level,
-                    muted,
-                    urgent,
-                    rooms,
-                })
-            }
-            Err(e) => Err(e),
-        }
+        read_fields!(row_by_der, alloc, octets => Alarm { level, muted, urgent, rooms })
     }
 }
 
@@ -87,29 +68,14 @@ impl<'a> ReadsFieldsByBer<'a> for Alarm {
         ⟦<AlarmRow as ReadsRow<'a, BerParser>>⟧.row_gives };
 
     fn read_fields_by_ber(alloc: Global, octets: &'a [u8]) -> Result<Alarm, Error> {
-        match row_by_ber(alloc, octets) {
-            Ok(row) => {
-                let (level, (muted, (urgent, (rooms, ())))) = row;
-                Ok(Alarm {
-                    level,
-                    muted,
-                    urgent,
-                    rooms,
-                })
-            }
-            Err(e) => Err(e),
-        }
+        read_fields!(row_by_ber, alloc, octets => Alarm { level, muted, urgent, rooms })
     }
 }
 
 /// Each alarm in hand is in DER form, since its fields are.
 impl AlwaysDerBy<FieldsKind> for Alarm {
     fn der_by_kind(&self) {
-        (
-            &self.level,
-            (&self.muted, (&self.urgent, (&self.rooms, ()))),
-        )
-            .each_is_der()
+        fields_in_der!(self => level, muted, urgent, rooms)
     }
 }
 

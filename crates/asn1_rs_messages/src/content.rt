@@ -3,13 +3,13 @@
 ghost use Rattle.asn1_rs.specs.Prelude.{MadeOf, ReadsByBer, ReadsByDer, refl, seen, struct_of, WritesStrict};
 
 use asn1_rs::author::{
-    BorrowedRow, Fields, FieldsKind, HasKind, HasReader, LawfulStruct, OfRow, ReadsFields,
-    ReadsFieldsByBer, ReadsRow, Row, StructReader, struct_by_ber, struct_by_der,
+    Fields, FieldsKind, HasKind, HasReader, LawfulStruct, OfRow, ReadsFields, ReadsFieldsByBer,
+    ReadsRow, Row, Row2, StructReader, struct_by_ber, struct_by_der,
 };
 use asn1_rs::laws::Grammar;
 use asn1_rs::{
     Any, BerParser, DerParser, Error, Oid, ParseResult, SerializeResult, SetOf, TaggedExplicit,
-    ToDer, read_ber, read_der, strict_vec,
+    ToDer, fields_in_hand, put_fields, read_ber, read_der, strict_vec,
 };
 use std::alloc::Global;
 
@@ -28,7 +28,7 @@ pub struct ContentInfo<'a> {
 pub type Content<'a> = TaggedExplicit<Any<'a>, Error, 0>;
 
 /// Its fields.
-pub type ContentRow<'a> = (Oid<'a>, (Option<Content<'a>>, ()));
+pub type ContentRow<'a> = Row2<Oid<'a>, Option<Content<'a>>>;
 
 impl HasKind for ContentInfo<'_> {
     type Kind = FieldsKind;
@@ -43,11 +43,11 @@ impl<'a> LawfulStruct for ContentInfo<'a> {
         ⟦<ContentRow<'a> as Row>⟧.row_laws refl };
 
     fn put_row(&self, fields: &mut Fields) -> SerializeResult<()> {
-        (&self.content_type, (&self.content, ())).put_each(fields)
+        put_fields!(self, fields => content_type, content)
     }
 
     fn row_in_hand(&self) {
-        (&self.content_type, (&self.content, ())).each_in_hand()
+        fields_in_hand!(self => content_type, content)
     }
 }
 
@@ -95,7 +95,7 @@ pub struct Attribute<'a> {
 }
 
 /// Its fields.
-pub type AttributeRow<'a> = (Oid<'a>, (SetOf<Any<'a>>, ()));
+pub type AttributeRow<'a> = Row2<Oid<'a>, SetOf<Any<'a>>>;
 
 impl HasKind for Attribute<'_> {
     type Kind = FieldsKind;
@@ -110,11 +110,11 @@ impl<'a> LawfulStruct for Attribute<'a> {
         ⟦<AttributeRow<'a> as Row>⟧.row_laws refl };
 
     fn put_row(&self, fields: &mut Fields) -> SerializeResult<()> {
-        (&self.attribute_type, (&self.values, ())).put_each(fields)
+        put_fields!(self, fields => attribute_type, values)
     }
 
     fn row_in_hand(&self) {
-        (&self.attribute_type, (&self.values, ())).each_in_hand()
+        fields_in_hand!(self => attribute_type, values)
     }
 }
 

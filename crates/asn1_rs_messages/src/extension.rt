@@ -5,13 +5,14 @@ ghost use Rattle.asn1_rs.specs.Prelude.{copied_by, MadeOf, OutOfMemory, ReadsByB
 ghost use Rattle.asn1_rs.specs.Prelude.{struct_of, WritesStrict};
 
 use asn1_rs::author::{
-    BorrowedRow, Fields, FieldsKind, HasKind, HasReader, LawfulStruct, ReadsFields,
-    ReadsFieldsByBer, ReadsRow, Row, StructReader, row_by_ber, row_by_der,
+    Fields, FieldsKind, HasKind, HasReader, LawfulStruct, ReadsFields, ReadsFieldsByBer, ReadsRow,
+    Row, Row3, StructReader,
 };
 use asn1_rs::laws::Grammar;
 use asn1_rs::{
     BerParser, DefaultFalse, Defaulted, DerParser, Error, OctetString, Oid, ParseResult,
-    SerializeResult, ToDer, ToStatic, read_ber, read_der, strict_vec,
+    SerializeResult, ToDer, ToStatic, fields_in_hand, put_fields, read_ber, read_der, read_fields,
+    strict_vec,
 };
 use std::alloc::Global;
 
@@ -29,10 +30,7 @@ pub struct Extension<'a> {
 }
 
 /// Its fields.
-pub type ExtensionRow<'a> = (
-    Oid<'a>,
-    (Defaulted<bool, DefaultFalse>, (OctetString<'a>, ())),
-);
+pub type ExtensionRow<'a> = Row3<Oid<'a>, Defaulted<bool, DefaultFalse>, OctetString<'a>>;
 
 impl HasKind for Extension<'_> {
     type Kind = FieldsKind;
@@ -47,11 +45,11 @@ impl<'a> LawfulStruct for Extension<'a> {
         ⟦<ExtensionRow<'a> as Row>⟧.row_laws refl };
 
     fn put_row(&self, fields: &mut Fields) -> SerializeResult<()> {
-        (&self.id, (&self.critical, (&self.value, ()))).put_each(fields)
+        put_fields!(self, fields => id, critical, value)
     }
 
     fn row_in_hand(&self) {
-        (&self.id, (&self.critical, (&self.value, ()))).each_in_hand()
+        fields_in_hand!(self => id, critical, value)
     }
 }
 
@@ -60,17 +58,7 @@ impl<'a> ReadsFields<'a> for Extension<'a> {
         ⟦<ExtensionRow<'a> as ReadsRow<'a, DerParser>>⟧.row_gives };
 
     fn read_fields(alloc: Global, octets: &'a [u8]) -> Result<Extension<'a>, Error> {
-        match row_by_der(alloc, octets) {
-            Ok(row) => {
-                let (id, (critical, (value, ()))) = row;
-                Ok(Extension {
-                    id,
-                    critical,
-                    value,
-                })
-            }
-            Err(e) => Err(e),
-        }
+        read_fields!(row_by_der, alloc, octets => Extension { id, critical, value })
     }
 }
 
@@ -79,17 +67,7 @@ impl<'a> ReadsFieldsByBer<'a> for Extension<'a> {
         ⟦<ExtensionRow<'a> as ReadsRow<'a, BerParser>>⟧.row_gives };
 
     fn read_fields_by_ber(alloc: Global, octets: &'a [u8]) -> Result<Extension<'a>, Error> {
-        match row_by_ber(alloc, octets) {
-            Ok(row) => {
-                let (id, (critical, (value, ()))) = row;
-                Ok(Extension {
-                    id,
-                    critical,
-                    value,
-                })
-            }
-            Err(e) => Err(e),
-        }
+        read_fields!(row_by_ber, alloc, octets => Extension { id, critical, value })
     }
 }
 

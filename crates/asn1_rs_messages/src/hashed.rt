@@ -8,13 +8,13 @@ ghost use Rattle.asn1_rs_messages.specs.Hashed.{sha256_octets};
 
 use crate::public_key::AlgorithmIdentifier;
 use asn1_rs::author::{
-    BorrowedRow, DefaultOf, Fields, FieldsKind, HasKind, HasReader, KeyType, LawfulStruct, OfRow,
-    ReadsFields, ReadsRow, Row, StructReader, struct_by_der,
+    DefaultOf, Fields, FieldsKind, HasKind, HasReader, KeyType, LawfulStruct, OfRow, ReadsFields,
+    ReadsRow, Row, Row2, Row3, StructReader, struct_by_der,
 };
 use asn1_rs::laws::Grammar;
 use asn1_rs::{
     Any, Defaulted, DerParser, Error, Integer, OctetString, Oid, ParseResult, SerializeResult,
-    ToDer, read_der, strict_vec,
+    ToDer, fields_in_hand, put_fields, read_der, strict_vec,
 };
 use std::alloc::Global;
 use std::borrow::CowSlice;
@@ -66,10 +66,11 @@ impl<'a> DefaultOf<AlgorithmIdentifier<'a>> for Sha256 {
 }
 
 /// Its fields.
-pub type HashedRow<'a> = (
+pub type HashedRow<'a> = Row3<
     Defaulted<AlgorithmIdentifier<'a>, Sha256>,
-    (OctetString<'a>, (Option<IssuerSerial<'a>>, ())),
-);
+    OctetString<'a>,
+    Option<IssuerSerial<'a>>,
+>;
 
 impl HasKind for HashedCertificate<'_> {
     type Kind = FieldsKind;
@@ -84,11 +85,11 @@ impl<'a> LawfulStruct for HashedCertificate<'a> {
         ⟦<HashedRow<'a> as Row>⟧.row_laws refl };
 
     fn put_row(&self, fields: &mut Fields) -> SerializeResult<()> {
-        (&self.algorithm, (&self.hash, (&self.issuer, ()))).put_each(fields)
+        put_fields!(self, fields => algorithm, hash, issuer)
     }
 
     fn row_in_hand(&self) {
-        (&self.algorithm, (&self.hash, (&self.issuer, ()))).each_in_hand()
+        fields_in_hand!(self => algorithm, hash, issuer)
     }
 }
 
@@ -131,7 +132,7 @@ pub struct IssuerSerial<'a> {
 }
 
 /// Its fields.
-pub type IssuerRow<'a> = (Vec<Any<'a>>, (Integer<'a>, ()));
+pub type IssuerRow<'a> = Row2<Vec<Any<'a>>, Integer<'a>>;
 
 impl HasKind for IssuerSerial<'_> {
     type Kind = FieldsKind;
@@ -146,11 +147,11 @@ impl<'a> LawfulStruct for IssuerSerial<'a> {
         ⟦<IssuerRow<'a> as Row>⟧.row_laws refl };
 
     fn put_row(&self, fields: &mut Fields) -> SerializeResult<()> {
-        (&self.names, (&self.number, ())).put_each(fields)
+        put_fields!(self, fields => names, number)
     }
 
     fn row_in_hand(&self) {
-        (&self.names, (&self.number, ())).each_in_hand()
+        fields_in_hand!(self => names, number)
     }
 }
 

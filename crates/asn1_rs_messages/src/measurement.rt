@@ -4,7 +4,7 @@ ghost use Rattle.asn1_rs.specs.Prelude.{struct_of, struct_type, WritesStrict};
 
 use asn1_rs::author::{
     AlwaysDerBy, Fields, FieldsKind, HasKind, HasReader, KeyType, LawfulStruct, MemberRow,
-    ReadsFields, ReadsFieldsByBer, ReadsRow, Row, StructReader,
+    ReadsFields, ReadsFieldsByBer, ReadsRow, Row, Row3, StructReader,
 };
 use asn1_rs::laws::{AlwaysDer, Grammar, LawfulMember};
 use asn1_rs::{
@@ -28,7 +28,7 @@ pub struct Measurement {
 }
 
 /// Its fields.
-pub type MeasurementRow = (u32, (u64, (Option<u8>, ())));
+pub type MeasurementRow = Row3<u32, u64, Option<u8>>;
 
 impl HasKind for Measurement {
     type Kind = FieldsKind;

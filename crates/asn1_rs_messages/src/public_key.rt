@@ -4,13 +4,13 @@ ghost use Rattle.asn1_rs.specs.Prelude.{key_of, MadeOf, ReadsByDer, refl, seen, 
 ghost use Rattle.asn1_rs.specs.Prelude.{struct_type, WritesStrict};
 
 use asn1_rs::author::{
-    BorrowedRow, Fields, FieldsKind, HasKind, HasReader, KeyType, LawfulStruct, MemberRow,
-    ReadsFields, ReadsRow, Row, StructReader, row_by_der,
+    Fields, FieldsKind, HasKind, HasReader, KeyType, LawfulStruct, MemberRow, ReadsFields,
+    ReadsRow, Row, Row2, StructReader,
 };
 use asn1_rs::laws::{Grammar, LawfulMember};
 use asn1_rs::{
-    Any, BitString, DerParser, Error, Oid, ParseResult, SerializeResult, ToDer, read_der,
-    strict_vec,
+    Any, BitString, DerParser, Error, Oid, ParseResult, SerializeResult, ToDer, fields_in_hand,
+    put_fields, read_der, read_fields, strict_vec,
 };
 use std::alloc::Global;
 
@@ -26,7 +26,7 @@ pub struct AlgorithmIdentifier<'a> {
 }
 
 /// Its fields.
-pub type AlgorithmRow<'a> = (Oid<'a>, (Option<Any<'a>>, ()));
+pub type AlgorithmRow<'a> = Row2<Oid<'a>, Option<Any<'a>>>;
 
 impl HasKind for AlgorithmIdentifier<'_> {
     type Kind = FieldsKind;
@@ -41,11 +41,11 @@ impl<'a> LawfulStruct for AlgorithmIdentifier<'a> {
         ⟦<AlgorithmRow<'a> as Row>⟧.row_laws refl };
 
     fn put_row(&self, fields: &mut Fields) -> SerializeResult<()> {
-        (&self.algorithm, (&self.parameters, ())).put_each(fields)
+        put_fields!(self, fields => algorithm, parameters)
     }
 
     fn row_in_hand(&self) {
-        (&self.algorithm, (&self.parameters, ())).each_in_hand()
+        fields_in_hand!(self => algorithm, parameters)
     }
 }
 
@@ -54,16 +54,7 @@ impl<'a> ReadsFields<'a> for AlgorithmIdentifier<'a> {
         ⟦<AlgorithmRow<'a> as ReadsRow<'a, DerParser>>⟧.row_gives };
 
     fn read_fields(alloc: Global, octets: &'a [u8]) -> Result<AlgorithmIdentifier<'a>, Error> {
-        match row_by_der(alloc, octets) {
-            Ok(row) => {
-                let (algorithm, (parameters, ())) = row;
-                Ok(AlgorithmIdentifier {
-                    algorithm,
-                    parameters,
-                })
-            }
-            Err(e) => Err(e),
-        }
+        read_fields!(row_by_der, alloc, octets => AlgorithmIdentifier { algorithm, parameters })
     }
 }
 
@@ -91,7 +82,7 @@ pub struct SubjectPublicKeyInfo<'a> {
 }
 
 /// Its fields.
-pub type PublicKeyRow<'a> = (AlgorithmIdentifier<'a>, (BitString<'a>, ()));
+pub type PublicKeyRow<'a> = Row2<AlgorithmIdentifier<'a>, BitString<'a>>;
 
 impl HasKind for SubjectPublicKeyInfo<'_> {
     type Kind = FieldsKind;
@@ -106,11 +97,11 @@ impl<'a> LawfulStruct for SubjectPublicKeyInfo<'a> {
         ⟦<PublicKeyRow<'a> as Row>⟧.row_laws refl };
 
     fn put_row(&self, fields: &mut Fields) -> SerializeResult<()> {
-        (&self.algorithm, (&self.subject_public_key, ())).put_each(fields)
+        put_fields!(self, fields => algorithm, subject_public_key)
     }
 
     fn row_in_hand(&self) {
-        (&self.algorithm, (&self.subject_public_key, ())).each_in_hand()
+        fields_in_hand!(self => algorithm, subject_public_key)
     }
 }
 
@@ -119,16 +110,9 @@ impl<'a> ReadsFields<'a> for SubjectPublicKeyInfo<'a> {
         ⟦<PublicKeyRow<'a> as ReadsRow<'a, DerParser>>⟧.row_gives };
 
     fn read_fields(alloc: Global, octets: &'a [u8]) -> Result<SubjectPublicKeyInfo<'a>, Error> {
-        match row_by_der(alloc, octets) {
-            Ok(row) => {
-                let (algorithm, (subject_public_key, ())) = row;
-                Ok(SubjectPublicKeyInfo {
-                    algorithm,
-                    subject_public_key,
-                })
-            }
-            Err(e) => Err(e),
-        }
+        read_fields!(row_by_der, alloc, octets => SubjectPublicKeyInfo {
+            algorithm, subject_public_key
+        })
     }
 }
 

@@ -3,13 +3,14 @@ ghost use Rattle.asn1_rs.specs.Prelude.{MadeOf, ReadsByBer, ReadsByDer, refl, se
 
 use crate::alarm::Muted;
 use asn1_rs::author::{
-    AlwaysDerBy, BorrowedRow, DerRow, Fields, FieldsKind, HasKind, HasReader, LawfulStruct,
-    ReadsFields, ReadsFieldsByBer, ReadsRow, Row, StructReader, row_by_ber, row_by_der,
+    AlwaysDerBy, Fields, FieldsKind, HasKind, HasReader, LawfulStruct, ReadsFields,
+    ReadsFieldsByBer, ReadsRow, Row, Row4, StructReader,
 };
 use asn1_rs::laws::{AlwaysDer, Grammar};
 use asn1_rs::{
     BerParser, DefaultFalse, Defaulted, DerParser, Error, ParseResult, SerializeResult, SetOf,
-    TaggedImplicit, ToDer, read_ber, read_der, strict_vec,
+    TaggedImplicit, ToDer, fields_in_der, fields_in_hand, put_fields, read_ber, read_der,
+    read_fields, strict_vec,
 };
 use std::alloc::Global;
 
@@ -29,13 +30,7 @@ pub struct Reminder {
 }
 
 /// Its fields.
-pub type ReminderRow = (
-    u8,
-    (
-        Option<Muted>,
-        (Defaulted<bool, DefaultFalse>, (Vec<u16>, ())),
-    ),
-);
+pub type ReminderRow = Row4<u8, Option<Muted>, Defaulted<bool, DefaultFalse>, Vec<u16>>;
 
 impl HasKind for Reminder {
     type Kind = FieldsKind;
@@ -50,19 +45,11 @@ impl LawfulStruct for Reminder {
         ⟦<ReminderRow as Row>⟧.row_laws refl };
 
     fn put_row(&self, fields: &mut Fields) -> SerializeResult<()> {
-        (
-            &self.level,
-            (&self.muted, (&self.urgent, (&self.rooms, ()))),
-        )
-            .put_each(fields)
+        put_fields!(self, fields => level, muted, urgent, rooms)
     }
 
     fn row_in_hand(&self) {
-        (
-            &self.level,
-            (&self.muted, (&self.urgent, (&self.rooms, ()))),
-        )
-            .each_in_hand()
+        fields_in_hand!(self => level, muted, urgent, rooms)
     }
 }
 
@@ -71,18 +58,7 @@ impl<'a> ReadsFields<'a> for Reminder {
         ⟦<ReminderRow as ReadsRow<'a, DerParser>>⟧.row_gives };
 
     fn read_fields(alloc: Global, octets: &'a [u8]) -> Result<Reminder, Error> {
-        match row_by_der(alloc, octets) {
-            Ok(row) => {
-                let (level, (muted, (urgent, (rooms, ())))) = row;
-                Ok(Reminder {
-                    level,
-                    muted,
-                    urgent,
-                    rooms,
-                })
-            }
-            Err(e) => Err(e),
-        }
+        read_fields!(row_by_der, alloc, octets => Reminder { level, muted, urgent, rooms })
     }
 }
 
@@ -91,29 +67,14 @@ impl<'a> ReadsFieldsByBer<'a> for Reminder {
         ⟦<ReminderRow as ReadsRow<'a, BerParser>>⟧.row_gives };
 
     fn read_fields_by_ber(alloc: Global, octets: &'a [u8]) -> Result<Reminder, Error> {
-        match row_by_ber(alloc, octets) {
-            Ok(row) => {
-                let (level, (muted, (urgent, (rooms, ())))) = row;
-                Ok(Reminder {
-                    level,
-                    muted,
-                    urgent,
-                    rooms,
-                })
-            }
-            Err(e) => Err(e),
-        }
+        read_fields!(row_by_ber, alloc, octets => Reminder { level, muted, urgent, rooms })
     }
 }
 
 /// Each reminder in hand is in DER form, since its fields are.
 impl AlwaysDerBy<FieldsKind> for Reminder {
     fn der_by_kind(&self) {
-        (
-            &self.level,
-            (&self.muted, (&self.urgent, (&self.rooms, ()))),
-        )
-            .each_is_der()
+        fields_in_der!(self => level, muted, urgent, rooms)
     }
 }
 

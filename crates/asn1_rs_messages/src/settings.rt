@@ -5,14 +5,14 @@ ghost use Rattle.asn1_rs.specs.Structs.DefaultTypes.{default_unsigned, default_s
 ghost use Rattle.asn1_rs.specs.Structs.DefaultTypes.{default_explicit, default_implicit, negative_fits};
 
 use asn1_rs::author::{
-    AlwaysDerBy, BorrowedRow, DefaultOf, DerRow, Fields, FieldsKind, HasKind, HasReader,
-    LawfulStruct, LawfulType, ReadsFields, ReadsFieldsByBer, ReadsRow, Row, StructReader,
-    row_by_ber, row_by_der,
+    AlwaysDerBy, DefaultOf, Fields, FieldsKind, HasKind, HasReader, LawfulStruct, LawfulType,
+    ReadsFields, ReadsFieldsByBer, ReadsRow, Row, Row5, StructReader,
 };
 use asn1_rs::laws::Grammar;
 use asn1_rs::{
     BerParser, Defaulted, DerParser, Enumerated, Error, ParseResult, SerializeResult,
-    TaggedExplicit, TaggedImplicit, read_ber, read_der,
+    TaggedExplicit, TaggedImplicit, fields_in_der, fields_in_hand, put_fields, read_ber, read_der,
+    read_fields,
 };
 use std::alloc::Global;
 
@@ -130,19 +130,13 @@ impl DefaultOf<Limit> for Hundred {
 }
 
 /// Its fields.
-pub type SettingsRow = (
+pub type SettingsRow = Row5<
     Defaulted<Version, FirstVersion>,
-    (
-        Defaulted<i32, MinusOne>,
-        (
-            Defaulted<Enumerated, Plain>,
-            (
-                Defaulted<Vec<u16>, NoRooms>,
-                (Defaulted<Limit, Hundred>, ()),
-            ),
-        ),
-    ),
-);
+    Defaulted<i32, MinusOne>,
+    Defaulted<Enumerated, Plain>,
+    Defaulted<Vec<u16>, NoRooms>,
+    Defaulted<Limit, Hundred>,
+>;
 
 impl HasKind for Settings {
     type Kind = FieldsKind;
@@ -156,19 +150,11 @@ impl LawfulStruct for Settings {
     ghost laws = { struct_of (λ x. (x.version, (x.offset, (x.mode, (x.rooms, (x.limit, tt)))))) ⟦<SettingsRow as Row>⟧.row_laws refl };
 
     fn put_row(&self, fields: &mut Fields) -> SerializeResult<()> {
-        (
-            &self.version,
-            (&self.offset, (&self.mode, (&self.rooms, (&self.limit, ())))),
-        )
-            .put_each(fields)
+        put_fields!(self, fields => version, offset, mode, rooms, limit)
     }
 
     fn row_in_hand(&self) {
-        (
-            &self.version,
-            (&self.offset, (&self.mode, (&self.rooms, (&self.limit, ())))),
-        )
-            .each_in_hand()
+        fields_in_hand!(self => version, offset, mode, rooms, limit)
     }
 }
 
@@ -177,19 +163,7 @@ impl<'a> ReadsFields<'a> for Settings {
         ⟦<SettingsRow as ReadsRow<'a, DerParser>>⟧.row_gives };
 
     fn read_fields(alloc: Global, octets: &'a [u8]) -> Result<Settings, Error> {
-        match row_by_der(alloc, octets) {
-            Ok(row) => {
-                let (version, (offset, (mode, (rooms, (limit, ()))))) = row;
-                Ok(Settings {
-                    version,
-                    offset,
-                    mode,
-                    rooms,
-                    limit,
-                })
-            }
-            Err(e) => Err(e),
-        }
+        read_fields!(row_by_der, alloc, octets => Settings { version, offset, mode, rooms, limit })
     }
 }
 
@@ -198,30 +172,14 @@ impl<'a> ReadsFieldsByBer<'a> for Settings {
         ⟦<SettingsRow as ReadsRow<'a, BerParser>>⟧.row_gives };
 
     fn read_fields_by_ber(alloc: Global, octets: &'a [u8]) -> Result<Settings, Error> {
-        match row_by_ber(alloc, octets) {
-            Ok(row) => {
-                let (version, (offset, (mode, (rooms, (limit, ()))))) = row;
-                Ok(Settings {
-                    version,
-                    offset,
-                    mode,
-                    rooms,
-                    limit,
-                })
-            }
-            Err(e) => Err(e),
-        }
+        read_fields!(row_by_ber, alloc, octets => Settings { version, offset, mode, rooms, limit })
     }
 }
 
 /// Settings in hand are in DER form, since their fields are.
 impl AlwaysDerBy<FieldsKind> for Settings {
     fn der_by_kind(&self) {
-        (
-            &self.version,
-            (&self.offset, (&self.mode, (&self.rooms, (&self.limit, ())))),
-        )
-            .each_is_der()
+        fields_in_der!(self => version, offset, mode, rooms, limit)
     }
 }
 

@@ -3,13 +3,13 @@ ghost use Rattle.asn1_rs.specs.Prelude.{key_of, MadeOf, ReadsByBer, ReadsByDer, 
 ghost use Rattle.asn1_rs.specs.Prelude.{struct_of, struct_type, WritesStrict};
 
 use asn1_rs::author::{
-    BorrowedRow, Fields, FieldsKind, HasKind, HasReader, KeyType, LawfulStruct, MemberRow,
-    ReadsFields, ReadsFieldsByBer, ReadsRow, Row, StructReader, row_by_ber, row_by_der,
+    Fields, FieldsKind, HasKind, HasReader, KeyType, LawfulStruct, MemberRow, ReadsFields,
+    ReadsFieldsByBer, ReadsRow, Row, Row3, StructReader,
 };
 use asn1_rs::laws::{Grammar, LawfulMember};
 use asn1_rs::{
     BerParser, DerParser, Error, Explicit, Implicit, OctetString, ParseResult, SerializeResult,
-    TaggedParser, ToDer, read_ber, read_der, strict_vec,
+    TaggedParser, ToDer, fields_in_hand, put_fields, read_ber, read_der, read_fields, strict_vec,
 };
 use std::alloc::Global;
 
@@ -34,7 +34,7 @@ pub type Signature<'a> = TaggedParser<'a, Explicit, OctetString<'a>, Error>;
 pub type Note<'a> = TaggedParser<'a, Implicit, OctetString<'a>, Error>;
 
 /// Its fields.
-pub type SignedRow<'a> = (u32, (Signature<'a>, (Option<Note<'a>>, ())));
+pub type SignedRow<'a> = Row3<u32, Signature<'a>, Option<Note<'a>>>;
 
 impl HasKind for Signed<'_> {
     type Kind = FieldsKind;
@@ -49,11 +49,11 @@ impl<'a> LawfulStruct for Signed<'a> {
         ⟦<SignedRow<'a> as Row>⟧.row_laws refl };
 
     fn put_row(&self, fields: &mut Fields) -> SerializeResult<()> {
-        (&self.number, (&self.signature, (&self.note, ()))).put_each(fields)
+        put_fields!(self, fields => number, signature, note)
     }
 
     fn row_in_hand(&self) {
-        (&self.number, (&self.signature, (&self.note, ()))).each_in_hand()
+        fields_in_hand!(self => number, signature, note)
     }
 }
 
@@ -62,17 +62,7 @@ impl<'a> ReadsFields<'a> for Signed<'a> {
         ⟦<SignedRow<'a> as ReadsRow<'a, DerParser>>⟧.row_gives };
 
     fn read_fields(alloc: Global, octets: &'a [u8]) -> Result<Signed<'a>, Error> {
-        match row_by_der(alloc, octets) {
-            Ok(row) => {
-                let (number, (signature, (note, ()))) = row;
-                Ok(Signed {
-                    number,
-                    signature,
-                    note,
-                })
-            }
-            Err(e) => Err(e),
-        }
+        read_fields!(row_by_der, alloc, octets => Signed { number, signature, note })
     }
 }
 
@@ -81,17 +71,7 @@ impl<'a> ReadsFieldsByBer<'a> for Signed<'a> {
         ⟦<SignedRow<'a> as ReadsRow<'a, BerParser>>⟧.row_gives };
 
     fn read_fields_by_ber(alloc: Global, octets: &'a [u8]) -> Result<Signed<'a>, Error> {
-        match row_by_ber(alloc, octets) {
-            Ok(row) => {
-                let (number, (signature, (note, ()))) = row;
-                Ok(Signed {
-                    number,
-                    signature,
-                    note,
-                })
-            }
-            Err(e) => Err(e),
-        }
+        read_fields!(row_by_ber, alloc, octets => Signed { number, signature, note })
     }
 }
 

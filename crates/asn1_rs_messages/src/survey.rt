@@ -3,13 +3,13 @@ ghost use Rattle.asn1_rs.specs.Prelude.{MadeOf, ReadsByBer, ReadsByDer, refl, se
 
 use crate::Measurement;
 use asn1_rs::author::{
-    BorrowedRow, Fields, FieldsKind, HasKind, HasReader, LawfulStruct, ReadsFields,
-    ReadsFieldsByBer, ReadsRow, Row, StructReader, row_by_ber, row_by_der,
+    Fields, FieldsKind, HasKind, HasReader, LawfulStruct, ReadsFields, ReadsFieldsByBer, ReadsRow,
+    Row, Row4, StructReader,
 };
 use asn1_rs::laws::Grammar;
 use asn1_rs::{
-    BerParser, BmpString, Boolean, DerParser, Error, ParseResult, SerializeResult, ToDer, read_ber,
-    read_der, strict_vec,
+    BerParser, BmpString, Boolean, DerParser, Error, ParseResult, SerializeResult, ToDer,
+    fields_in_hand, put_fields, read_ber, read_der, read_fields, strict_vec,
 };
 use std::alloc::Global;
 use std::collections::{BTreeSet, HashSet};
@@ -30,10 +30,7 @@ pub struct Survey<'a> {
 }
 
 /// Its fields.
-pub type SurveyRow<'a> = (
-    BmpString<'a>,
-    (Boolean, (HashSet<u32>, (BTreeSet<Measurement>, ()))),
-);
+pub type SurveyRow<'a> = Row4<BmpString<'a>, Boolean, HashSet<u32>, BTreeSet<Measurement>>;
 
 impl HasKind for Survey<'_> {
     type Kind = FieldsKind;
@@ -48,19 +45,11 @@ impl<'a> LawfulStruct for Survey<'a> {
         ⟦<SurveyRow<'a> as Row>⟧.row_laws refl };
 
     fn put_row(&self, fields: &mut Fields) -> SerializeResult<()> {
-        (
-            &self.station,
-            (&self.finished, (&self.places, (&self.measurements, ()))),
-        )
-            .put_each(fields)
+        put_fields!(self, fields => station, finished, places, measurements)
     }
 
     fn row_in_hand(&self) {
-        (
-            &self.station,
-            (&self.finished, (&self.places, (&self.measurements, ()))),
-        )
-            .each_in_hand()
+        fields_in_hand!(self => station, finished, places, measurements)
     }
 }
 
@@ -69,18 +58,9 @@ impl<'a> ReadsFields<'a> for Survey<'a> {
         ⟦<SurveyRow<'a> as ReadsRow<'a, DerParser>>⟧.row_gives };
 
     fn read_fields(alloc: Global, octets: &'a [u8]) -> Result<Survey<'a>, Error> {
-        match row_by_der::<SurveyRow<'a>>(alloc, octets) {
-            Ok(row) => {
-                let (station, (finished, (places, (measurements, ())))) = row;
-                Ok(Survey {
-                    station,
-                    finished,
-                    places,
-                    measurements,
-                })
-            }
-            Err(e) => Err(e),
-        }
+        read_fields!(row_by_der, alloc, octets => Survey {
+            station, finished, places, measurements
+        })
     }
 }
 
@@ -89,18 +69,9 @@ impl<'a> ReadsFieldsByBer<'a> for Survey<'a> {
         ⟦<SurveyRow<'a> as ReadsRow<'a, BerParser>>⟧.row_gives };
 
     fn read_fields_by_ber(alloc: Global, octets: &'a [u8]) -> Result<Survey<'a>, Error> {
-        match row_by_ber::<SurveyRow<'a>>(alloc, octets) {
-            Ok(row) => {
-                let (station, (finished, (places, (measurements, ())))) = row;
-                Ok(Survey {
-                    station,
-                    finished,
-                    places,
-                    measurements,
-                })
-            }
-            Err(e) => Err(e),
-        }
+        read_fields!(row_by_ber, alloc, octets => Survey {
+            station, finished, places, measurements
+        })
     }
 }
 

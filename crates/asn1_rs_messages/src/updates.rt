@@ -4,13 +4,13 @@ ghost use Rattle.asn1_rs.specs.Prelude.{MadeOf, ReadsByBer, ReadsByDer, refl, se
 
 use crate::time::{TaggedTime, Time};
 use asn1_rs::author::{
-    BorrowedRow, Fields, FieldsKind, HasKind, HasReader, LawfulStruct, ReadsFields,
-    ReadsFieldsByBer, ReadsRow, Row, StructReader, row_by_ber, row_by_der,
+    Fields, FieldsKind, HasKind, HasReader, LawfulStruct, ReadsFields, ReadsFieldsByBer, ReadsRow,
+    Row, Row4, StructReader,
 };
 use asn1_rs::laws::Grammar;
 use asn1_rs::{
-    BerParser, DerParser, Error, ParseResult, SerializeResult, ToDer, read_ber, read_der,
-    strict_vec,
+    BerParser, DerParser, Error, ParseResult, SerializeResult, ToDer, fields_in_hand, put_fields,
+    read_ber, read_der, read_fields, strict_vec,
 };
 use std::alloc::Global;
 
@@ -30,7 +30,7 @@ pub struct Updates {
 }
 
 /// Its fields.
-pub type UpdatesRow = (Time, (Option<Time>, (Vec<Time>, (Option<TaggedTime>, ()))));
+pub type UpdatesRow = Row4<Time, Option<Time>, Vec<Time>, Option<TaggedTime>>;
 
 impl HasKind for Updates {
     type Kind = FieldsKind;
@@ -45,19 +45,11 @@ impl LawfulStruct for Updates {
         ⟦<UpdatesRow as Row>⟧.row_laws refl };
 
     fn put_row(&self, fields: &mut Fields) -> SerializeResult<()> {
-        (
-            &self.this_update,
-            (&self.next_update, (&self.earlier, (&self.last, ()))),
-        )
-            .put_each(fields)
+        put_fields!(self, fields => this_update, next_update, earlier, last)
     }
 
     fn row_in_hand(&self) {
-        (
-            &self.this_update,
-            (&self.next_update, (&self.earlier, (&self.last, ()))),
-        )
-            .each_in_hand()
+        fields_in_hand!(self => this_update, next_update, earlier, last)
     }
 }
 
@@ -66,18 +58,9 @@ impl<'a> ReadsFields<'a> for Updates {
         ⟦<UpdatesRow as ReadsRow<'a, DerParser>>⟧.row_gives };
 
     fn read_fields(alloc: Global, octets: &'a [u8]) -> Result<Updates, Error> {
-        match row_by_der(alloc, octets) {
-            Ok(row) => {
-                let (this_update, (next_update, (earlier, (last, ())))) = row;
-                Ok(Updates {
-                    this_update,
-                    next_update,
-                    earlier,
-                    last,
-                })
-            }
-            Err(e) => Err(e),
-        }
+        read_fields!(row_by_der, alloc, octets => Updates {
+            this_update, next_update, earlier, last
+        })
     }
 }
 
@@ -86,18 +69,9 @@ impl<'a> ReadsFieldsByBer<'a> for Updates {
         ⟦<UpdatesRow as ReadsRow<'a, BerParser>>⟧.row_gives };
 
     fn read_fields_by_ber(alloc: Global, octets: &'a [u8]) -> Result<Updates, Error> {
-        match row_by_ber(alloc, octets) {
-            Ok(row) => {
-                let (this_update, (next_update, (earlier, (last, ())))) = row;
-                Ok(Updates {
-                    this_update,
-                    next_update,
-                    earlier,
-                    last,
-                })
-            }
-            Err(e) => Err(e),
-        }
+        read_fields!(row_by_ber, alloc, octets => Updates {
+            this_update, next_update, earlier, last
+        })
     }
 }
 

@@ -3,13 +3,13 @@ ghost use Rattle.asn1_rs.specs.Prelude.{MadeOf, ReadsByBer, ReadsByDer, refl, se
 
 use crate::time::Time;
 use asn1_rs::author::{
-    BorrowedRow, Fields, FieldsKind, HasKind, HasReader, LawfulStruct, ReadsFields,
-    ReadsFieldsByBer, ReadsRow, Row, StructReader, row_by_ber, row_by_der,
+    Fields, FieldsKind, HasKind, HasReader, LawfulStruct, ReadsFields, ReadsFieldsByBer, ReadsRow,
+    Row, Row2, StructReader,
 };
 use asn1_rs::laws::Grammar;
 use asn1_rs::{
-    BerParser, DerParser, Error, ParseResult, SerializeResult, ToDer, read_ber, read_der,
-    strict_vec,
+    BerParser, DerParser, Error, ParseResult, SerializeResult, ToDer, fields_in_hand, put_fields,
+    read_ber, read_der, read_fields, strict_vec,
 };
 use std::alloc::Global;
 
@@ -25,7 +25,7 @@ pub struct Validity {
 }
 
 /// Its fields.
-pub type ValidityRow = (Time, (Time, ()));
+pub type ValidityRow = Row2<Time, Time>;
 
 impl HasKind for Validity {
     type Kind = FieldsKind;
@@ -40,11 +40,11 @@ impl LawfulStruct for Validity {
         ⟦<ValidityRow as Row>⟧.row_laws refl };
 
     fn put_row(&self, fields: &mut Fields) -> SerializeResult<()> {
-        (&self.not_before, (&self.not_after, ())).put_each(fields)
+        put_fields!(self, fields => not_before, not_after)
     }
 
     fn row_in_hand(&self) {
-        (&self.not_before, (&self.not_after, ())).each_in_hand()
+        fields_in_hand!(self => not_before, not_after)
     }
 }
 
@@ -53,16 +53,7 @@ impl<'a> ReadsFields<'a> for Validity {
         ⟦<ValidityRow as ReadsRow<'a, DerParser>>⟧.row_gives };
 
     fn read_fields(alloc: Global, octets: &'a [u8]) -> Result<Validity, Error> {
-        match row_by_der(alloc, octets) {
-            Ok(row) => {
-                let (not_before, (not_after, ())) = row;
-                Ok(Validity {
-                    not_before,
-                    not_after,
-                })
-            }
-            Err(e) => Err(e),
-        }
+        read_fields!(row_by_der, alloc, octets => Validity { not_before, not_after })
     }
 }
 
@@ -71,16 +62,7 @@ impl<'a> ReadsFieldsByBer<'a> for Validity {
         ⟦<ValidityRow as ReadsRow<'a, BerParser>>⟧.row_gives };
 
     fn read_fields_by_ber(alloc: Global, octets: &'a [u8]) -> Result<Validity, Error> {
-        match row_by_ber(alloc, octets) {
-            Ok(row) => {
-                let (not_before, (not_after, ())) = row;
-                Ok(Validity {
-                    not_before,
-                    not_after,
-                })
-            }
-            Err(e) => Err(e),
-        }
+        read_fields!(row_by_ber, alloc, octets => Validity { not_before, not_after })
     }
 }
 

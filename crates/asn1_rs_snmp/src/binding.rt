@@ -4,13 +4,13 @@ ghost use Rattle.asn1_rs_snmp.specs.Messages.{var_bind_laws};
 
 use crate::value::BindingValue;
 use asn1_rs::author::{
-    BorrowedRow, Fields, FieldsKind, HasKind, HasReader, LawfulStruct, ReadsFieldsByBer, ReadsRow,
-    Row, StructReader, row_by_ber,
+    Fields, FieldsKind, HasKind, HasReader, LawfulStruct, ReadsFieldsByBer, ReadsRow, Row, Row2,
+    StructReader,
 };
 use asn1_rs::laws::Grammar;
 use asn1_rs::{
-    BerParser, Error, Oid, ParseResult, SerializeResult, ToDer, read_ber, read_ber_whole,
-    strict_vec,
+    BerParser, Error, Oid, ParseResult, SerializeResult, ToDer, fields_in_hand, put_fields,
+    read_ber, read_ber_whole, read_fields, strict_vec,
 };
 use std::alloc::Global;
 
@@ -26,7 +26,7 @@ pub struct VarBind<'a> {
 }
 
 /// Its fields.
-pub type VarBindRow<'a> = (Oid<'a>, (BindingValue<'a>, ()));
+pub type VarBindRow<'a> = Row2<Oid<'a>, BindingValue<'a>>;
 
 impl HasKind for VarBind<'_> {
     type Kind = FieldsKind;
@@ -41,12 +41,12 @@ impl<'a> LawfulStruct for VarBind<'a> {
 
     #[tactic(auto, unfolding(crate::specs::Messages::var_bind_laws))]
     fn put_row(&self, fields: &mut Fields) -> SerializeResult<()> {
-        (&self.name, (&self.value, ())).put_each(fields)
+        put_fields!(self, fields => name, value)
     }
 
     #[tactic(auto, unfolding(crate::specs::Messages::var_bind_laws))]
     fn row_in_hand(&self) {
-        (&self.name, (&self.value, ())).each_in_hand()
+        fields_in_hand!(self => name, value)
     }
 }
 
@@ -56,13 +56,7 @@ impl<'a> ReadsFieldsByBer<'a> for VarBind<'a> {
 
     #[tactic(auto, unfolding(crate::specs::Messages::var_bind_laws))]
     fn read_fields_by_ber(alloc: Global, octets: &'a [u8]) -> Result<VarBind<'a>, Error> {
-        match row_by_ber(alloc, octets) {
-            Ok(row) => {
-                let (name, (value, ())) = row;
-                Ok(VarBind { name, value })
-            }
-            Err(e) => Err(e),
-        }
+        read_fields!(row_by_ber, alloc, octets => VarBind { name, value })
     }
 }
 

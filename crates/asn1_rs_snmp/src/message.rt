@@ -4,13 +4,13 @@ ghost use Rattle.asn1_rs.specs.Prelude.{WritesStrict};
 
 use crate::pdus::Pdus;
 use asn1_rs::author::{
-    BorrowedRow, Fields, FieldsKind, HasKind, HasReader, LawfulStruct, ReadsFieldsByBer, ReadsRow,
-    Row, StructReader, row_by_ber,
+    Fields, FieldsKind, HasKind, HasReader, LawfulStruct, ReadsFieldsByBer, ReadsRow, Row, Row3,
+    StructReader,
 };
 use asn1_rs::laws::Grammar;
 use asn1_rs::{
-    BerParser, Error, FromBer, OctetString, ParseResult, SerializeResult, ToDer, read_ber,
-    read_ber_whole, strict_vec,
+    BerParser, Error, FromBer, OctetString, ParseResult, SerializeResult, ToDer, fields_in_hand,
+    put_fields, read_ber, read_ber_whole, read_fields, strict_vec,
 };
 use std::alloc::Global;
 
@@ -28,7 +28,7 @@ pub struct Message<'a> {
 }
 
 /// Its fields.
-pub type MessageRow<'a> = (u32, (OctetString<'a>, (Pdus<'a>, ())));
+pub type MessageRow<'a> = Row3<u32, OctetString<'a>, Pdus<'a>>;
 
 impl HasKind for Message<'_> {
     type Kind = FieldsKind;
@@ -43,11 +43,11 @@ impl<'a> LawfulStruct for Message<'a> {
         ⟦<MessageRow<'a> as Row>⟧.row_laws refl };
 
     fn put_row(&self, fields: &mut Fields) -> SerializeResult<()> {
-        (&self.version, (&self.community, (&self.data, ()))).put_each(fields)
+        put_fields!(self, fields => version, community, data)
     }
 
     fn row_in_hand(&self) {
-        (&self.version, (&self.community, (&self.data, ()))).each_in_hand()
+        fields_in_hand!(self => version, community, data)
     }
 }
 
@@ -56,17 +56,7 @@ impl<'a> ReadsFieldsByBer<'a> for Message<'a> {
         ⟦<MessageRow<'a> as ReadsRow<'a, BerParser>>⟧.row_gives };
 
     fn read_fields_by_ber(alloc: Global, octets: &'a [u8]) -> Result<Message<'a>, Error> {
-        match row_by_ber(alloc, octets) {
-            Ok(row) => {
-                let (version, (community, (data, ()))) = row;
-                Ok(Message {
-                    version,
-                    community,
-                    data,
-                })
-            }
-            Err(e) => Err(e),
-        }
+        read_fields!(row_by_ber, alloc, octets => Message { version, community, data })
     }
 }
 

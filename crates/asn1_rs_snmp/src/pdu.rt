@@ -4,10 +4,10 @@ ghost use Rattle.asn1_rs_snmp.specs.Pdus.{bulk_pdu_laws, pdu_laws};
 
 use crate::binding::VarBind;
 use asn1_rs::author::{
-    BorrowedRow, Fields, FieldsKind, HasKind, HasReader, LawfulStruct, OfRow, ReadsFieldsByBer,
-    ReadsRow, StructReader, struct_by_ber,
+    Fields, FieldsKind, HasKind, HasReader, LawfulStruct, OfRow, ReadsFieldsByBer, ReadsRow, Row4,
+    StructReader, struct_by_ber,
 };
-use asn1_rs::{BerParser, Error, SerializeResult};
+use asn1_rs::{BerParser, Error, SerializeResult, fields_in_hand, put_fields};
 use std::alloc::Global;
 
 /// A request or an answer. The numbers of the status stand in RFC 3416.
@@ -26,7 +26,7 @@ pub struct Pdu<'a> {
 }
 
 /// Its fields.
-pub type PduRow<'a> = (i32, (u8, (u32, (Vec<VarBind<'a>>, ()))));
+pub type PduRow<'a> = Row4<i32, u8, u32, Vec<VarBind<'a>>>;
 
 impl HasKind for Pdu<'_> {
     type Kind = FieldsKind;
@@ -41,25 +41,11 @@ impl<'a> LawfulStruct for Pdu<'a> {
     ghost laws = { pdu_laws };
 
     fn put_row(&self, fields: &mut Fields) -> SerializeResult<()> {
-        (
-            &self.request_id,
-            (
-                &self.error_status,
-                (&self.error_index, (&self.variable_bindings, ())),
-            ),
-        )
-            .put_each(fields)
+        put_fields!(self, fields => request_id, error_status, error_index, variable_bindings)
     }
 
     fn row_in_hand(&self) {
-        (
-            &self.request_id,
-            (
-                &self.error_status,
-                (&self.error_index, (&self.variable_bindings, ())),
-            ),
-        )
-            .each_in_hand()
+        fields_in_hand!(self => request_id, error_status, error_index, variable_bindings)
     }
 }
 
@@ -105,7 +91,7 @@ pub struct BulkPdu<'a> {
 }
 
 /// Its fields.
-pub type BulkPduRow<'a> = (i32, (u32, (u32, (Vec<VarBind<'a>>, ()))));
+pub type BulkPduRow<'a> = Row4<i32, u32, u32, Vec<VarBind<'a>>>;
 
 impl HasKind for BulkPdu<'_> {
     type Kind = FieldsKind;
@@ -120,25 +106,11 @@ impl<'a> LawfulStruct for BulkPdu<'a> {
     ghost laws = { bulk_pdu_laws };
 
     fn put_row(&self, fields: &mut Fields) -> SerializeResult<()> {
-        (
-            &self.request_id,
-            (
-                &self.non_repeaters,
-                (&self.max_repetitions, (&self.variable_bindings, ())),
-            ),
-        )
-            .put_each(fields)
+        put_fields!(self, fields => request_id, non_repeaters, max_repetitions, variable_bindings)
     }
 
     fn row_in_hand(&self) {
-        (
-            &self.request_id,
-            (
-                &self.non_repeaters,
-                (&self.max_repetitions, (&self.variable_bindings, ())),
-            ),
-        )
-            .each_in_hand()
+        fields_in_hand!(self => request_id, non_repeaters, max_repetitions, variable_bindings)
     }
 }
 

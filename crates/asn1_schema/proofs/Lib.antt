@@ -58,3 +58,4 @@ pub mod WrittenBits
 pub mod WrittenTapes
 pub mod MembersCounted
 pub mod StrictWords
+pub mod Appended

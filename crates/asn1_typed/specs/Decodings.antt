@@ -17,17 +17,17 @@ use Rattle.asn1_typed.specs.declared.decoding.NextLine.{NextLine}
 use Rattle.asn1_typed.specs.declared.decoding.NextLine.TheVariants as front
 use Rattle.asn1_typed.specs.declared.input.Input.{Input}
 use Rattle.asn1_typed.specs.Readings.{IsNoValue}
-use Rattle.asn1_typed.specs.Refusals.{IsRefusalLine}
+use Rattle.asn1_typed.specs.Refusals.{IsToldRefusal}
 
 -- the value as JSON, and a line feed
 abbrev pub value_text : Schema → Bool → ℕ → Value → List ℕ
 value_text schema pretty of value = layout pretty (tokens_of (of_schema schema) (Some of) value) ++ codes "\n"
 
--- the line of some refusal
+-- the line of some refusal, and of the element at its octet
 abbrev pub IsRefused : Schema → Input → List ℕ → Type 0
-IsRefused schema input line = (refusal : Refusal) × IsRefusalLine schema.nodes.items schema.names.items input refusal line
+IsRefused schema input text = (refusal : Refusal) × IsToldRefusal schema.nodes.items schema.names.items input refusal text
 
--- the octets are one value whole, and this is its text; or they are none, and this is the line of a refusal
+-- the octets are one value whole, and this is its text; or they are none, and this is told of a refusal
 abbrev pub IsDecoded : Decoding → Schema → ℕ → Input → Decoded → Type 0
 IsDecoded by schema of input (answers.Value text) = (value : Value) ×
     IsWordOf by.coding schema.nodes.items 64 of input.octets.now value ×
@@ -35,7 +35,7 @@ IsDecoded by schema of input (answers.Value text) = (value : Value) ×
 IsDecoded by schema of input (answers.Refused line) =
     IsNoValue by.coding schema.nodes.items of input.octets.now × IsRefused schema input line.items
 
--- a value stands at the front, and this is its text; or none does, and this is the line of a refusal
+-- a value stands at the front, and this is its text; or none does, and this is told of a refusal
 abbrev pub DecodesNext : Decoding → Schema → ℕ → Input → NextLine → Type 0
 DecodesNext by schema of input (front.Value text rest) = (value : Value) ×
     Front (IsWordOf by.coding schema.nodes.items 64 of) input.octets.now value rest.now ×
@@ -47,7 +47,7 @@ DecodesNext by schema of input (front.Refused line) =
 abbrev pub value_texts : Schema → Bool → ℕ → List Value → List ℕ
 value_texts schema pretty of values = flat_map (λ value. value_text schema pretty of value) values
 
--- nothing is left; or no value begins what is left, and this is the line of a refusal
+-- nothing is left; or no value begins what is left, and this is told of a refusal
 abbrev pub EndsRow : Decoding → Schema → ℕ → Input → Option (Vec ℕ Global) → Type 0
 EndsRow by schema of left None = left.octets.now ≡ []
 EndsRow by schema of left (Some line) =

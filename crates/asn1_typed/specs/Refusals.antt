@@ -1,12 +1,12 @@
 -- What is written of octets that are no value of a type.
-use Rattle.std.specs.Prelude.{ℕ, ◌≡◌, List, ◌++◌, codes}
+use Rattle.std.specs.Prelude.{ℕ, ◌≡◌, List, ◌++◌, codes, drop}
 use Rattle.asn1_schema.specs.declared.refusal.Reason.{Reason}
 use Rattle.asn1_schema.specs.declared.refusal.Reason.TheVariants as reasons
 use Rattle.asn1_schema.specs.declared.refusal.Refusal.{Refusal}
 use Rattle.asn1_schema.specs.declared.schema.Node.{Node}
 use Rattle.asn1_schema.specs.declared.names.TypeNames.{TypeNames}
 use Rattle.asn1_words.specs.Words.{number_text}
-use Rattle.asn1_engine.specs.Trees.{sum_within}
+use Rattle.asn1_engine.specs.Trees.{IsFirstLine, sum_within}
 use Rattle.asn1_typed.specs.declared.input.Input.{Input}
 use Rattle.asn1_typed.specs.Kinds.{named_text}
 
@@ -33,3 +33,9 @@ octet_text input octet = input.name.now ++ codes ": octet " ++ number_text (sum_
 abbrev pub IsRefusalLine : List Node → List TypeNames → Input → Refusal → List ℕ → Type 0
 IsRefusalLine table names input refusal text = (path : List ℕ) × (text ≡ octet_text input refusal.octet ++ path ++
     codes " (" ++ named_text 16 table names refusal.of ++ codes "): " ++ reason_text refusal.reason ++ codes "\n")
+
+-- the line of a refusal, and behind it the line of the tree for the element that begins at its octet; nothing where none does
+abbrev pub IsToldRefusal : List Node → List TypeNames → Input → Refusal → List ℕ → Type 0
+IsToldRefusal table names input refusal text = (line element : List ℕ) × IsRefusalLine table names input refusal line ×
+    IsFirstLine 64 (sum_within input.offset refusal.octet) (drop refusal.octet input.octets.now) element ×
+    (text ≡ line ++ element)

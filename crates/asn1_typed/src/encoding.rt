@@ -1,9 +1,9 @@
 //! JSON as octets, by a type of a table.
 ghost use Rattle.std.specs.Prelude.{ℕ, ◌≡◌, true, IfOk};
+ghost use Rattle.asn1_schema.specs.Owned.{owned_marks};
 ghost use Rattle.asn1_schema.specs.Sound.{is_sound};
 ghost use Rattle.asn1_schema.specs.Tape.{Kept, tape_of, value_of};
 ghost use Rattle.asn1_schema.specs.Values.{Value as SpecValue};
-ghost use Rattle.asn1_json.specs.Made.{made_marks};
 ghost use Rattle.asn1_typed.specs.Encodings.{IsEncoded, IsWritten};
 
 use crate::input::Input;
@@ -11,11 +11,12 @@ use crate::kinds::{self, push_named};
 use crate::reading::MOST_DEPTH;
 use asn1_engine::RunError;
 use asn1_json::reading::Reason;
-use asn1_json::{FromJsonError, JsonRefusal, JsonTape, tape_from_json};
+use asn1_json::{FromJsonError, JsonRefusal, tape_from_json};
 use asn1_module::mistake::position;
 use asn1_schema::build::Schema;
 use asn1_schema::encode::{EncodeError, encode_der_vec};
 use asn1_schema::laws::tapes_begin_with_one_value;
+use asn1_schema::owned::OwnedTape;
 use asn1_words::words::{push_number, push_str};
 use std::alloc::{AllocError, Global};
 
@@ -80,10 +81,10 @@ fn written(
     schema: &Schema<'_>,
     of: usize,
     input: Input<'_>,
-    made: &JsonTape,
+    made: &OwnedTape,
 ) -> Result<Encoded, RunError>
     requires { is_sound schema.now.nodes.items ≡ true }
-    ensures { (kept : Kept) → made_marks made.now ≡ tape_of kept →
+    ensures { (kept : Kept) → owned_marks made.now ≡ tape_of kept →
         IfOk result (IsWritten schema.now of (value_of kept)) }
 {
     tapes_begin_with_one_value();

@@ -1,14 +1,19 @@
 //! Why octets are no value of a type, in a line.
 ghost use Rattle.std.specs.Prelude.{◌≡◌, ◌++◌, List, ℕ, OnOk};
-ghost use Rattle.asn1_typed.specs.Refusals.{IsRefusalLine, octet_text, reason_text};
+ghost use Rattle.asn1_typed.specs.Refusals.{IsRefusalLine, IsToldRefusal, octet_text, reason_text};
 
 use crate::input::Input;
 use crate::kinds::{MOST_DEPTH, push_named};
 use crate::path::push_path;
+use asn1_engine::push_first_line;
 use asn1_schema::build::Schema;
 use asn1_schema::refusal::{Reason, Refusal};
+use asn1_words::octets::behind;
 use asn1_words::words::{push_number, push_str};
 use std::alloc::{AllocError, Global};
+
+/// The value of an element has as many columns at most.
+const LINE_WIDTH: usize = 64;
 
 /// A reason in words.
 fn reason_words(reason: Reason) -> &'static str
@@ -72,4 +77,23 @@ pub fn push_refusal(
     push_str(text, reason_words(refusal.reason))?;
     push_str(text, "\n")?;
     Ok(())
+}
+
+/// Appends the line of a refusal, and the line of the tree for the element that begins at its octet, if one does.
+pub fn push_refusal_and_element(
+    alloc: Global,
+    text: &mut Vec<u8>,
+    input: Input<'_>,
+    schema: &Schema<'_>,
+    of: usize,
+    refusal: &Refusal,
+) -> Result<(), AllocError>
+    ensures { OnOk result ((told : List ℕ) ×
+        IsToldRefusal schema.now.nodes.items schema.now.names.items input.entry refusal.now told ×
+        (text.new.items ≡ text.old.items ++ told)) }
+{
+    push_refusal(alloc, text, input, schema, of, refusal)?;
+    let rest = behind(input.octets, refusal.octet);
+    let offset = input.offset.saturating_add(refusal.octet);
+    push_first_line(alloc, text, rest, offset, LINE_WIDTH)
 }

@@ -8,10 +8,10 @@ ghost use Rattle.asn1_json.specs.Outcomes.{AreMembers, MakesRow, document_of};
 ghost use Rattle.asn1_json.specs.Tokens.{Types as SpecTypes};
 
 use crate::reading::leaf::By;
-use crate::reading::made::JsonTape;
 use crate::reading::trail::{Fault, Reason, Trail};
 use asn1_headers::buffer::DerBuffer;
 use asn1_schema::encode::{EncodeError, encode_der};
+use asn1_schema::owned::OwnedTape;
 use json::Value;
 use std::alloc::{AllocError, Global};
 
@@ -21,7 +21,7 @@ pub(super) struct Member<'v, 'a> {
     /// What it was read from.
     pub(super) item: &'v Value<'a>,
     /// Its tape.
-    pub(super) made: JsonTape,
+    pub(super) made: OwnedTape,
     /// Its strict encoding.
     pub(super) octets: DerBuffer,
 }
@@ -30,7 +30,7 @@ pub(super) struct Member<'v, 'a> {
 pub(super) fn encoded(
     by: By<'_, '_>,
     of: usize,
-    made: &JsonTape,
+    made: &OwnedTape,
     trail: &mut Trail,
 ) -> Result<DerBuffer, Fault>
     requires { is_sound by.types.table.now ≡ true }
@@ -58,7 +58,7 @@ pub(super) fn arrange(members: &mut Vec<Member<'_, '_>>) -> Result<(), AllocErro
 pub(super) fn put_members(
     alloc: Global,
     members: &[Member<'_, '_>],
-    made: &mut JsonTape,
+    made: &mut OwnedTape,
 ) -> Result<(), AllocError>
     ensures { (types : SpecTypes) (depth nesting of : ℕ) →
         AreMembers (Denotes types depth nesting of) members.now → OnOk result (MakesRow

@@ -21,13 +21,13 @@ use crate::reading::arcs::{has_arcs, identifier_content};
 use crate::reading::bits::{bits_of, hexadecimal};
 use crate::reading::characters::{character_octets, text_octets};
 use crate::reading::integers::integer_content;
-use crate::reading::made::JsonTape;
 use crate::reading::trail::{Fault, Reason, Trail};
 use crate::types::Types;
 use asn1_headers::buffer::DerBuffer;
 use asn1_headers::der::element_by_der;
 use asn1_schema::encode::{EncodeError, encode_der};
 use asn1_schema::laws::tapes_begin_with_one_value;
+use asn1_schema::owned::OwnedTape;
 use asn1_schema::schema::{Kind, TextKind, TimeKind};
 use asn1_schema::tape::Item;
 use json::Value;
@@ -72,7 +72,7 @@ fn put(
     by: By<'_, '_>,
     of: usize,
     item: Item<'_>,
-    made: &mut JsonTape,
+    made: &mut OwnedTape,
     trail: &mut Trail,
 ) -> Result<(), Fault>
     requires { is_sound by.types.table.now ≡ true }
@@ -93,7 +93,7 @@ fn read_boolean(
     by: By<'_, '_>,
     of: usize,
     value: &Value<'_>,
-    made: &mut JsonTape,
+    made: &mut OwnedTape,
     trail: &mut Trail,
 ) -> Result<(), Fault>
     requires sound { is_sound by.types.table.now ≡ true }
@@ -111,7 +111,7 @@ fn read_null(
     by: By<'_, '_>,
     of: usize,
     value: &Value<'_>,
-    made: &mut JsonTape,
+    made: &mut OwnedTape,
     trail: &mut Trail,
 ) -> Result<(), Fault>
     requires sound { is_sound by.types.table.now ≡ true }
@@ -129,7 +129,7 @@ fn read_integer(
     by: By<'_, '_>,
     of: usize,
     value: &Value<'_>,
-    made: &mut JsonTape,
+    made: &mut OwnedTape,
     trail: &mut Trail,
 ) -> Result<(), Fault>
     requires sound { is_sound by.types.table.now ≡ true }
@@ -165,7 +165,7 @@ fn read_name(
     of: usize,
     at: usize,
     name: &str,
-    made: &mut JsonTape,
+    made: &mut OwnedTape,
     trail: &mut Trail,
 ) -> Result<(), Fault>
     requires sound { is_sound by.types.table.now ≡ true }
@@ -191,7 +191,7 @@ fn read_listed(
     of: usize,
     at: usize,
     value: &Value<'_>,
-    made: &mut JsonTape,
+    made: &mut OwnedTape,
     trail: &mut Trail,
 ) -> Result<(), Fault>
     requires sound { is_sound by.types.table.now ≡ true }
@@ -214,7 +214,7 @@ fn read_bits(
     by: By<'_, '_>,
     of: usize,
     value: &Value<'_>,
-    made: &mut JsonTape,
+    made: &mut OwnedTape,
     trail: &mut Trail,
 ) -> Result<(), Fault>
     requires sound { is_sound by.types.table.now ≡ true }
@@ -235,7 +235,7 @@ fn read_octets(
     by: By<'_, '_>,
     of: usize,
     text: &str,
-    made: &mut JsonTape,
+    made: &mut OwnedTape,
     trail: &mut Trail,
 ) -> Result<(), Fault>
     requires sound { is_sound by.types.table.now ≡ true }
@@ -265,7 +265,7 @@ fn read_identifier(
     of: usize,
     relative: bool,
     text: &str,
-    made: &mut JsonTape,
+    made: &mut OwnedTape,
     trail: &mut Trail,
 ) -> Result<(), Fault>
     requires sound { is_sound by.types.table.now ≡ true }
@@ -284,7 +284,7 @@ fn read_text(
     of: usize,
     kind: TextKind,
     text: &str,
-    made: &mut JsonTape,
+    made: &mut OwnedTape,
     trail: &mut Trail,
 ) -> Result<(), Fault>
     requires sound { is_sound by.types.table.now ≡ true }
@@ -303,7 +303,7 @@ fn read_time(
     of: usize,
     kind: TimeKind,
     text: &str,
-    made: &mut JsonTape,
+    made: &mut OwnedTape,
     trail: &mut Trail,
 ) -> Result<(), Fault>
     requires sound { is_sound by.types.table.now ≡ true }
@@ -360,7 +360,7 @@ fn read_element(
     by: By<'_, '_>,
     of: usize,
     text: &str,
-    made: &mut JsonTape,
+    made: &mut OwnedTape,
     trail: &mut Trail,
 ) -> Result<(), Fault>
     requires sound { is_sound by.types.table.now ≡ true }
@@ -394,7 +394,7 @@ fn read_string(
     of: usize,
     kind: &Kind,
     value: &Value<'_>,
-    made: &mut JsonTape,
+    made: &mut OwnedTape,
     trail: &mut Trail,
 ) -> Result<(), Fault>
     requires sound { is_sound by.types.table.now ≡ true }
@@ -422,7 +422,7 @@ pub(super) fn read_leaf(
     at: usize,
     kind: &Kind,
     value: &Value<'_>,
-    made: &mut JsonTape,
+    made: &mut OwnedTape,
     trail: &mut Trail,
 ) -> Result<(), Fault>
     requires sound { is_sound by.types.table.now ≡ true }

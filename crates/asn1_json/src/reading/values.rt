@@ -13,10 +13,10 @@ ghost use Rattle.asn1_json.specs.Types.{arms_of, fields_of, kind_at};
 
 use crate::reading::arranged::{Member, arrange, encoded, put_members};
 use crate::reading::leaf::{By, judge, read_leaf};
-use crate::reading::made::JsonTape;
 use crate::reading::names::{arm_named, judge_names, member_named, member_of_field, only_member};
 use crate::reading::trail::{Fault, Reason, Step, Trail};
 use asn1_schema::decode::{DecodeError, decode_der_whole};
+use asn1_schema::owned::OwnedTape;
 use asn1_schema::refusal::Refusal;
 use asn1_schema::schema::{Field, Kind, Presence};
 use asn1_schema::tape::Item;
@@ -27,7 +27,7 @@ fn put_default(
     by: By<'_, '_>,
     of: usize,
     octets: &[u8],
-    made: &mut JsonTape,
+    made: &mut OwnedTape,
     trail: &mut Trail,
 ) -> Result<(), Fault>
     requires sound { is_sound by.types.table.now ≡ true }
@@ -59,7 +59,7 @@ fn leave_out(
     row: usize,
     place: usize,
     field: &Field,
-    made: &mut JsonTape,
+    made: &mut OwnedTape,
     trail: &mut Trail,
 ) -> Result<(), Fault>
     requires sound { is_sound by.types.table.now ≡ true }
@@ -85,7 +85,7 @@ fn read_field<'a>(
     place: usize,
     field: &Field,
     members: &[(&'a str, Value<'a>)],
-    made: &mut JsonTape,
+    made: &mut OwnedTape,
     trail: &mut Trail,
 ) -> Result<(), Fault>
     requires sound { is_sound by.types.table.now ≡ true }
@@ -113,7 +113,7 @@ fn read_fields<'a>(
     depth: usize,
     row: usize,
     members: &[(&'a str, Value<'a>)],
-    made: &mut JsonTape,
+    made: &mut OwnedTape,
     trail: &mut Trail,
 ) -> Result<(), Fault>
     requires sound { is_sound by.types.table.now ≡ true }
@@ -137,7 +137,7 @@ fn read_array(
     of: usize,
     inner: usize,
     value: &Value<'_>,
-    made: &mut JsonTape,
+    made: &mut OwnedTape,
     trail: &mut Trail,
 ) -> Result<(), Fault>
     requires sound { is_sound by.types.table.now ≡ true }
@@ -163,7 +163,7 @@ fn read_unknown<'a>(
     depth: usize,
     row: usize,
     members: &[(&'a str, Value<'a>)],
-    made: &mut JsonTape,
+    made: &mut OwnedTape,
     trail: &mut Trail,
 ) -> Result<(), Fault>
     requires sound { is_sound by.types.table.now ≡ true }
@@ -192,7 +192,7 @@ fn read_row(
     of: usize,
     row: usize,
     value: &Value<'_>,
-    made: &mut JsonTape,
+    made: &mut OwnedTape,
     trail: &mut Trail,
 ) -> Result<(), Fault>
     requires sound { is_sound by.types.table.now ≡ true }
@@ -207,10 +207,10 @@ fn read_row(
     };
     let members = members.as_slice();
     judge_names(by.alloc, by.types, row, members, trail)?;
-    let mut inner = JsonTape::new(by.alloc);
+    let mut inner = OwnedTape::new(by.alloc);
     read_fields(by, depth, row, members, &mut inner, trail)?;
     read_unknown(by, depth, row, members, &mut inner, trail)?;
-    made.put_row(by.alloc, &inner)?;
+    made.push_row(by.alloc, &inner)?;
     Ok(())
 }
 
@@ -222,16 +222,16 @@ fn read_list(
     of: usize,
     inner: usize,
     value: &Value<'_>,
-    made: &mut JsonTape,
+    made: &mut OwnedTape,
     trail: &mut Trail,
 ) -> Result<(), Fault>
     requires sound { is_sound by.types.table.now ≡ true }
     ensures { OnOk result (Makes (DenotesList
         (Denotes (seen by.entry.types) by.entry.depth depth inner) (value_view value.now)) made.old made.new) }
 {
-    let mut items = JsonTape::new(by.alloc);
+    let mut items = OwnedTape::new(by.alloc);
     read_array(by, depth, of, inner, value, &mut items, trail)?;
-    made.put_row(by.alloc, &items)?;
+    made.push_row(by.alloc, &items)?;
     Ok(())
 }
 
@@ -253,7 +253,7 @@ fn read_members<'v, 'a>(
     let mut members = Vec::new(by.alloc);
     for (place, item) in items.iter().enumerate() {
         trail.enter(Step::Item(place))?;
-        let mut made = JsonTape::new(by.alloc);
+        let mut made = OwnedTape::new(by.alloc);
         read_value(by, depth, of, item, &mut made, trail)?;
         let octets = encoded(by, of, &made, trail)?;
         trail.leave();
@@ -270,7 +270,7 @@ fn read_set(
     of: usize,
     inner: usize,
     value: &Value<'_>,
-    made: &mut JsonTape,
+    made: &mut OwnedTape,
     trail: &mut Trail,
 ) -> Result<(), Fault>
     requires sound { is_sound by.types.table.now ≡ true }
@@ -283,9 +283,9 @@ fn read_set(
     let items = items.as_slice();
     let mut members = read_members(by, depth, inner, items, trail)?;
     arrange(&mut members)?;
-    let mut arranged = JsonTape::new(by.alloc);
+    let mut arranged = OwnedTape::new(by.alloc);
     put_members(by.alloc, members.as_slice(), &mut arranged)?;
-    made.put_row(by.alloc, &arranged)?;
+    made.push_row(by.alloc, &arranged)?;
     Ok(())
 }
 
@@ -297,7 +297,7 @@ fn read_choice(
     of: usize,
     choice: usize,
     value: &Value<'_>,
-    made: &mut JsonTape,
+    made: &mut OwnedTape,
     trail: &mut Trail,
 ) -> Result<(), Fault>
     requires sound { is_sound by.types.table.now ≡ true }
@@ -336,7 +336,7 @@ fn read_kind(
     at: usize,
     kind: &Kind,
     value: &Value<'_>,
-    made: &mut JsonTape,
+    made: &mut OwnedTape,
     trail: &mut Trail,
 ) -> Result<(), Fault>
     requires sound { is_sound by.types.table.now ≡ true }
@@ -377,7 +377,7 @@ fn judge_whole(
     at: usize,
     kind: &Kind,
     start: usize,
-    made: &JsonTape,
+    made: &OwnedTape,
     trail: &mut Trail,
 ) -> Result<(), Fault>
     requires { is_sound by.types.table.now ≡ true }
@@ -397,7 +397,7 @@ pub(super) fn read_value(
     depth: usize,
     of: usize,
     value: &Value<'_>,
-    made: &mut JsonTape,
+    made: &mut OwnedTape,
     trail: &mut Trail,
 ) -> Result<(), Fault>
     requires { is_sound by.types.table.now ≡ true }

@@ -82,11 +82,11 @@ impl ReadsBy for BerParser {
 ///             ⟦<MeasurementRow as Row>⟧.row_laws refl };
 ///
 ///         fn put_row(&self, fields: &mut Fields) -> SerializeResult<()> {
-///             (&self.place, (&self.value, (&self.error, ()))).put_each(fields)
+///             put_fields!(self, fields => place, value, error)
 ///         }
 ///
 ///         fn row_in_hand(&self) {
-///             (&self.place, (&self.value, (&self.error, ()))).each_in_hand()
+///             fields_in_hand!(self => place, value, error)
 ///         }
 ///     }
 ///
@@ -115,7 +115,7 @@ pub trait LawfulStruct: HasKind<Kind = FieldsKind> + Sized {
 ///         ghost as_row = { λ m. (m.place, (m.value, (m.error, tt))) };
 ///
 ///         fn of_row(row: MeasurementRow) -> Measurement {
-///             let (place, (value, (error, ()))) = row;
+///             let row!(place, value, error) = row;
 ///             Measurement { place, value, error }
 ///         }
 ///     }

@@ -2,7 +2,8 @@ use Rattle.std.proofs.Common.{◌≡◌, ◌∙◌, ap, sym, subst, refl, ℕ, �
 use Rattle.json.specs.Value.{items_of}
 use Rattle.asn1_schema.specs.Tape.{tape_of, marks}
 use Rattle.asn1_json.specs.Denotes.{Denotes, DenoteItems}
-use Rattle.asn1_json.specs.Outcomes.{Appends, MakesRow, document_of}
+use Rattle.asn1_schema.specs.Owned.{Appends}
+use Rattle.asn1_json.specs.Outcomes.{MakesRow, document_of}
 use Rattle.asn1_json.proofs.ByKind.{no_item, next_item, all_items, member_next}
 use Rattle.asn1_json.proofs.reading.arranged.put_members.Goals as goal
 

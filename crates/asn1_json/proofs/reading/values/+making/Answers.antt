@@ -23,7 +23,7 @@ pub read_list-returns : goal.read_list-returns
 read_list-returns t c =
     let Sub = Denotes (seen c.args.by.types) c.args.by.depth c.args.depth c.args.inner in
     row_made (DenotesItems Sub (value_view c.args.value.now)) (DenotesList Sub (value_view c.args.value.now))
-    c.new-items.result c.read_array.new.made c.args.made.now c.put_row.new.self c.new-items.ensures c.in_ok-read_array.ensures c.in_ok-put_row.ensures
+    c.new-items.result c.read_array.new.made c.args.made.now c.push_row.new.self c.new-items.ensures c.in_ok-read_array.ensures c.in_ok-push_row.ensures
     (λ vs d. (d.0, vs, d.1, refl, d.2))
 
 pub read_row-returns : goal.read_row-returns
@@ -36,10 +36,10 @@ read_row-returns t c =
     let ms = members_view c.as_slice-members.result.now in
     row_made (DenoteFields types depth Sub c.args.row unknown ms fs 0)
     (DenotesRow types depth Sub c.args.row fs unknown (value_view c.args.value.now))
-    c.new-inner.result c.read_unknown.new.made c.args.made.now c.put_row.new.self c.new-inner.ensures
+    c.new-inner.result c.read_unknown.new.made c.args.made.now c.push_row.new.self c.new-inner.ensures
     (fields_made types depth Sub c.args.row unknown ms fs c.new-inner.result c.read_fields.new.made c.read_unknown.new.made
     (c.in_ok-read_fields.ensures unknown) c.in_ok-read_unknown.ensures)
-    c.in_ok-put_row.ensures
+    c.in_ok-push_row.ensures
     (λ vs d. (
       ms,
       vs,
@@ -145,10 +145,10 @@ read_set-returns t c =
     let order = members_in_order ms ns (map value_view items) c.arrange.ensures c.in_ok-members.ensures.all in
     let each = All-permutation (IsMember Sub) ms ns c.arrange.ensures c.in_ok-members.ensures.each in
     row_made (DenoteItems Sub (items_of (map document_of ns))) (DenotesSet Sub (value_view c.args.value.now))
-    c.new-arranged.result c.put_members.new.made c.args.made.now c.put_row.new.self c.new-arranged.ensures
+    c.new-arranged.result c.put_members.new.made c.args.made.now c.push_row.new.self c.new-arranged.ensures
     (subst (λ l. MakesRow (DenoteItems Sub (items_of (map document_of l))) c.new-arranged.result c.put_members.new.made) same
     (c.in_ok-put_members.ensures types c.args.by.depth c.args.depth c.args.inner (subst (AreMembers Sub) (sym same) each)))
-    c.in_ok-put_row.ensures
+    c.in_ok-push_row.ensures
     (λ vs d. (
       items_of (map value_view items),
       vs,

@@ -1,8 +1,8 @@
-use Rattle.std.proofs.Common.{◌≡◌, ◌∙◌, ap, sym, List, map, take, drop, arith}
+use Rattle.std.proofs.Common.{◌∙◌, ap, sym, List, map, drop, arith}
 use Rattle.std.proofs.lemmas.List.{take_all, drop-map}
-use Rattle.asn1_json.specs.Made.{placed_mark}
-use Rattle.asn1_json.specs.declared.reading.made.Placed.{Placed}
-use Rattle.asn1_json.proofs.reading.made.JsonTape.lend_from.Goals as goal
+use Rattle.asn1_schema.specs.Owned.{placed_mark}
+use Rattle.asn1_schema.specs.declared.owned.Placed.{Placed}
+use Rattle.asn1_schema.proofs.owned.OwnedTape.lend_from.Goals as goal
 
 pub returns : goal.returns
 returns c =

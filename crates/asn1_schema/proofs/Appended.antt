@@ -1,33 +1,31 @@
 -- Tapes to which marks are appended.
-use Rattle.std.proofs.Common.{◌≡◌, ◌∙◌, ap, sym, refl, subst, ℕ, List, [], ◌∷◌, ◌++◌, map, length, take, drop, append_assoc, append-nil}
+use Rattle.std.proofs.Common.{◌≡◌, ◌∙◌, ap, sym, refl, subst, ℕ, List, [], ◌∷◌, ◌++◌, map, length, take, append_assoc, append-nil}
 use Rattle.std.proofs.Math.Seq.{drop-append_seam, take-append_seam}
 use Rattle.std.proofs.lemmas.List.{map-append}
 use Rattle.asn1_schema.specs.declared.tape.Item.{Item}
 use Rattle.asn1_schema.specs.declared.tape.Item.TheVariants as items
 use Rattle.asn1_schema.specs.Tape.{Mark, mark, between, begin_mark, end_mark}
-use Rattle.asn1_schema.specs.Owned.{filled, lent, span}
-use Rattle.asn1_json.specs.Made.{made_marks, made_with, placed_mark}
-use Rattle.asn1_json.specs.declared.reading.made.Placed.{Placed}
-use Rattle.asn1_json.specs.Outcomes.{Appends}
-use Rattle.asn1_json.specs.declared.reading.made.JsonTape.{JsonTape}
+use Rattle.asn1_schema.specs.declared.owned.Placed.{Placed}
+use Rattle.asn1_schema.specs.declared.owned.OwnedTape.{OwnedTape}
+use Rattle.asn1_schema.specs.Owned.{Appends, filled, lent, owned_marks, owned_with, placed_mark, span}
 
 -- nothing was appended
-pub appends_nothing : (tape : JsonTape) → Appends tape tape []
+pub appends_nothing : (tape : OwnedTape) → Appends tape tape []
 appends_nothing tape = record {
   octets = [];
   behind = sym (append-nil tape.octets.items);
-  marks = λ more. sym (append-nil (made_with tape more));
+  marks = λ more. sym (append-nil (owned_with tape more));
 }
 
 -- first the ones and then the others
-pub appends_both : (old mid new : JsonTape) (ms ns : List Mark) → Appends old mid ms → Appends mid new ns →
+pub appends_both : (old mid new : OwnedTape) (ms ns : List Mark) → Appends old mid ms → Appends mid new ns →
     Appends old new (ms ++ ns)
 appends_both old mid new ms ns a b = record {
   octets = a.octets ++ b.octets;
   behind = b.behind ∙ ap (λ (o : List ℕ). o ++ b.octets) a.behind ∙ append_assoc old.octets.items a.octets b.octets;
   marks = λ more. b.marks more ∙ ap (λ (l : List Mark). l ++ ns) (a.marks (b.octets ++ more))
-      ∙ ap (λ (o : List ℕ). (made_with old o ++ ms) ++ ns) (sym (append_assoc a.octets b.octets more))
-      ∙ append_assoc (made_with old ((a.octets ++ b.octets) ++ more)) ms ns;
+      ∙ ap (λ (o : List ℕ). (owned_with old o ++ ms) ++ ns) (sym (append_assoc a.octets b.octets more))
+      ∙ append_assoc (owned_with old ((a.octets ++ b.octets) ++ more)) ms ns;
 }
 
 -- an item with its own octets is the item
@@ -75,14 +73,14 @@ unmarked f g [] none = refl
 unmarked f g (p ∷ ps) none = absurd (cc)
 
 -- behind nothing
-pub made_whole : (old new : JsonTape) (ms : List Mark) → made_marks old ≡ [] → Appends old new ms → made_marks new ≡ ms
-made_whole old new ms none a =
+pub appended_to_none : (old new : OwnedTape) (ms : List Mark) → owned_marks old ≡ [] → Appends old new ms → owned_marks new ≡ ms
+appended_to_none old new ms none a =
     ap (λ (o : List ℕ). map (placed_mark o) new.items.items) (sym (append-nil new.octets.items)) ∙ a.marks []
     ∙ ap (λ (l : List Mark). l ++ ms)
     (unmarked (placed_mark old.octets.items) (placed_mark (old.octets.items ++ (a.octets ++ []))) old.items.items none)
 
 -- a row is put: its begin, its marks, and its end
-pub row_put : (old begun mid new : JsonTape) (ms : List Mark) (n : ℕ) → n ≡ length ms → Appends old begun (begin_mark n ∷ []) →
+pub row_put : (old begun mid new : OwnedTape) (ms : List Mark) (n : ℕ) → n ≡ length ms → Appends old begun (begin_mark n ∷ []) →
     Appends begun mid ms → Appends mid new (end_mark n ∷ []) →
     Appends old new (between (begin_mark (length ms)) ms (end_mark (length ms)))
 row_put old begun mid new ms n is a b c =

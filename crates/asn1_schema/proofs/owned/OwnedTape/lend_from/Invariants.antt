@@ -1,7 +1,7 @@
 use Rattle.std.proofs.Common.{◌≡◌, map, take, drop}
 use Rattle.asn1_schema.specs.Tape.{marks}
-use Rattle.asn1_json.specs.Made.{placed_mark}
-use Rattle.asn1_json.proofs.reading.made.JsonTape.lend_from.Given as goal
+use Rattle.asn1_schema.specs.Owned.{placed_mark}
+use Rattle.asn1_schema.proofs.owned.OwnedTape.lend_from.Given as goal
 
 abbrev pub invariant-loop-placed : goal.invariant-loop-placed
 invariant-loop-placed l =

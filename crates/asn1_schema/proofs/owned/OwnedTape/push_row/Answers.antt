@@ -1,9 +1,9 @@
-use Rattle.std.proofs.Common.{◌≡◌, ◌∙◌, ap, sym, subst, List, length, arith}
+use Rattle.std.proofs.Common.{◌≡◌, ◌∙◌, ap, subst, List, length, arith}
 use Rattle.std.proofs.lemmas.List.{length-map}
 use Rattle.asn1_schema.specs.Tape.{Mark, mark, marks}
-use Rattle.asn1_json.specs.Outcomes.{Appends}
-use Rattle.asn1_json.proofs.Appended.{row_put}
-use Rattle.asn1_json.proofs.reading.made.JsonTape.put_row.Goals as goal
+use Rattle.asn1_schema.specs.Owned.{Appends}
+use Rattle.asn1_schema.proofs.Appended.{row_put}
+use Rattle.asn1_schema.proofs.owned.OwnedTape.push_row.Goals as goal
 
 pub returns : goal.returns
 returns c = λ ms is.
