@@ -8,11 +8,11 @@ use crate::Octets;
 use crate::matching::{ComparedValue, ComparedValueOf};
 use asn1_rs::author::{
     BorrowedRow, DefaultOf, Fields, FieldsKind, HasKind, HasReader, LawfulStruct, ReadsFieldsByBer,
-    ReadsRow, Row, Row2, StructReader,
+    ReadsRow, Row, Row2, StructReader, row_by_ber,
 };
 use asn1_rs::{
     BerParser, Defaulted, Error, OctetString, SerializeResult, TaggedImplicit, fields_in_hand,
-    put_fields,
+    put_fields, read_fields,
 };
 use std::alloc::Global;
 
@@ -59,13 +59,7 @@ impl<'a> ReadsFieldsByBer<'a> for AttributeValueAssertion<'a> {
         alloc: Global,
         octets: &'a [u8],
     ) -> Result<AttributeValueAssertion<'a>, Error> {
-        match row_by_ber::<AttributeValueRow<'a>>(alloc, octets) {
-            Ok(row) => {
-                let (attribute, (value, ())) = row;
-                Ok(AttributeValueAssertion { attribute, value })
-            }
-            Err(e) => Err(e),
-        }
+        read_fields!(row_by_ber, alloc, octets => AttributeValueAssertion { attribute, value })
     }
 }
 
