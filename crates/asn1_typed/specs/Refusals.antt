@@ -34,8 +34,11 @@ abbrev pub IsRefusalLine : List Node → List TypeNames → Input → Refusal �
 IsRefusalLine table names input refusal text = (path : List ℕ) × (text ≡ octet_text input refusal.octet ++ path ++
     codes " (" ++ named_text 16 table names refusal.of ++ codes "): " ++ reason_text refusal.reason ++ codes "\n")
 
--- the line of a refusal, and behind it the line of the tree for the element that begins at its octet; nothing where none does
-abbrev pub IsToldRefusal : List Node → List TypeNames → Input → Refusal → List ℕ → Type 0
-IsToldRefusal table names input refusal text = (line element : List ℕ) × IsRefusalLine table names input refusal line ×
-    IsFirstLine 64 (sum_within input.offset refusal.octet) (drop refusal.octet input.octets.now) element ×
-    (text ≡ line ++ element)
+-- The line of a refusal, and behind it the line of the tree for the element that begins at its octet; nothing where none
+-- does.
+pub record IsToldRefusal (table : List Node) (names : List TypeNames) (input : Input) (refusal : Refusal) (text : List ℕ) : Type 0 where
+  pub line : List ℕ
+  pub is_line : IsRefusalLine table names input refusal line
+  pub element : List ℕ
+  pub is_element : IsFirstLine 64 (sum_within input.offset refusal.octet) (drop refusal.octet input.octets.now) element
+  pub is : text ≡ line ++ element

@@ -95,5 +95,6 @@ pub fn push_refusal_and_element(
     push_refusal(alloc, text, input, schema, of, refusal)?;
     let rest = behind(input.octets, refusal.octet);
     let offset = input.offset.saturating_add(refusal.octet);
-    push_first_line(alloc, text, rest, offset, LINE_WIDTH)
+    push_first_line(alloc, text, rest, offset, LINE_WIDTH)?;
+    Ok(())
 }

@@ -21,3 +21,6 @@ pub returns-in-Ok : goal.returns-in-Ok
 returns-in-Ok c =
     let m = c.in-Ok.ensures.ok in
     encoded c.args.schema.now c.args.of c.args.input _ m c.written.result (c.written.ensures m.kept m.tape)
+
+pub returns-in-Err-Refused : goal.returns-in-Err-Refused
+returns-in-Err-Refused c = c.refused.ensures.encoded c.args.of

@@ -18,3 +18,6 @@ returns-in-Ok c = λ kept at.
     subst (λ (t : List Node). Word strict t 64 of e.word (value_of e.kept)) c.as_slice-nodes.ensures.value e.holds in
     subst (λ (o : List ℕ). Word strict table 64 of o (value_of kept)) (sym (e.put ∙ append-nil e.word))
     (subst (λ (k : Kept). Word strict table 64 of e.word (value_of k)) same word)
+
+pub returns : goal.returns
+returns c = λ kept at. c.refused.ensures.written c.args.of (value_of kept)
