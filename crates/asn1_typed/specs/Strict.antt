@@ -8,9 +8,9 @@ use Rattle.asn1_schema.specs.Rules.{der, strict}
 use Rattle.asn1_schema.specs.Values.{Value}
 use Rattle.asn1_schema.specs.declared.build.Schema.{Schema}
 use Rattle.asn1_schema.specs.declared.schema.Node.{Node}
-use Rattle.asn1_typed.specs.Decodings.{IsRefused}
+use Rattle.asn1_schema.specs.declared.refusal.Refusal.{Refusal}
 use Rattle.asn1_typed.specs.Kinds.{named_text}
-use Rattle.asn1_typed.specs.Refusals.{octet_text}
+use Rattle.asn1_typed.specs.Refusals.{IsRefusalLine, octet_text}
 use Rattle.asn1_typed.specs.declared.input.Input.{Input}
 
 -- the octets are the strict encoding of a value, or of none
@@ -47,7 +47,8 @@ TellsNone table of input line = (line ≡ no_encoding_text input) ×
 
 -- the octets are of no value by DER, and this is the line of a refusal
 abbrev pub TellsRefusal : Schema → ℕ → Input → List ℕ → Type 0
-TellsRefusal schema of input line = IsRefused schema input line ×
+TellsRefusal schema of input line =
+    ((refusal : Refusal) × IsRefusalLine schema.nodes.items schema.names.items input refusal line) ×
     ((value : Value) → Word der schema.nodes.items 64 of input.octets.now value → ⊥)
 
 -- the line of a verdict
