@@ -1,4 +1,6 @@
 //! A file of JSON as octets, by a type of modules.
+ghost use Rattle.std.specs.Prelude.{◌≡◌, true, IfOk, IfSome};
+ghost use Rattle.asn1_schema.specs.Sound.{is_sound};
 
 use crate::files::{FileError, read, told};
 use crate::modules::{sources, texts};
@@ -22,7 +24,9 @@ fn type_of<'t, R: Eprint + AllocGlobal>(
     rt: &R,
     call: &EncodeCall<'_>,
     sources: &[Source<'t>],
-) -> Result<Option<(TypeTable<'t>, usize)>, RunError> {
+) -> Result<Option<(TypeTable<'t>, usize)>, RunError>
+    ensures { IfOk result (λ found. IfSome found (λ x. is_sound x.0.schema.nodes.items ≡ true)) }
+{
     let alloc = rt.alloc();
     let mut said = Vec::new(alloc);
     let Some(table) = sound_types(alloc, sources, &mut said)? else {
