@@ -54,7 +54,7 @@ pub use crate::structs::numbers::ToldByNumber;
 pub use crate::structs::putting::{WritesType, WritesTypeBy};
 pub use crate::structs::reading::{FieldsByLaws, LeafField, ReadsType, ReadsTypeBy};
 pub use crate::structs::row::{
-    BorrowedRow, DerRow, ReadsRow, Row, row_by_ber, row_by_der, struct_by_ber, struct_by_der,
+    ReadsRow, Row, row_by_ber, row_by_der, struct_by_ber, struct_by_der,
 };
 pub use crate::structs::{
     LawfulStruct, OfRow, ReadsBy, ReadsFields, ReadsFieldsByBer, StructReader,

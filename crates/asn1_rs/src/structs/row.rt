@@ -1,16 +1,14 @@
 //! Rows of fields: pairs of a field and the row behind it, with `()` at the end.
 ghost use Rattle.std.specs.Prelude.{◌≡◌, ℕ, List, Result};
 ghost use Rattle.asn1_headers.specs.declared.error.Error.{Error};
-ghost use Rattle.asn1_rs.specs.Fields.{taken_in};
-ghost use Rattle.asn1_rs.specs.Structs.{RowGrammar, by_der, by_ber, empty_row, row_of, EndGives, RowGives, PutList, none_put, put_then, PutsAll};
+ghost use Rattle.asn1_rs.specs.Structs.{RowGrammar, by_der, by_ber, empty_row, row_of, EndGives, RowGives};
 ghost use Rattle.asn1_rs.specs.Structs.{MadeOf};
 ghost use Rattle.asn1_rs.specs.Structs.Data.{LawfulRowOf, AnswersField, AnswersRow, end_row, then_row};
 
-use crate::kinds::fields::Fields;
-use crate::structs::field::{FieldIsDer, FieldType, ReadsField, WritesField};
+use crate::structs::field::{FieldType, ReadsField};
 use crate::structs::{OfRow, ReadsBy};
 use asn1_headers::content::{BerParser, DerParser};
-use asn1_headers::error::{DerConstraint, Error, SerializeResult};
+use asn1_headers::error::{DerConstraint, Error};
 use std::alloc::Global;
 
 /// A row of fields.
@@ -165,91 +163,4 @@ where
     ensures gives { MadeOf T.as_row R.row_gives octets.now result }
 {
     struct_by::<T, R, BerParser>(alloc, octets)
-}
-
-/// A row of references to fields.
-// A row of the fields themselves would have to be taken out of the struct.
-pub trait BorrowedRow {
-    /// How each field is written, with the field.
-    ghost puts: { Self → PutList };
-
-    /// That the value of each field is one of its type's.
-    ghost have_values: { Self → Type 0 };
-
-    /// Puts each field: in their order, or from the last to the first where they are put before the octets of a buffer.
-    fn put_each(&self, fields: &mut Fields) -> SerializeResult<()>
-        ensures { PutsAll (puts self.now) (taken_in fields.old) (taken_in fields.new) result };
-
-    /// States of the fields in hand that their values are those of their types.
-    fn each_in_hand(&self)
-        ensures { have_values self.now };
-}
-
-impl BorrowedRow for () {
-    ghost puts = { λ r. none_put };
-
-    ghost have_values = { λ r. Unit {0} };
-
-    fn put_each(&self, _fields: &mut Fields) -> SerializeResult<()> {
-        Ok(())
-    }
-
-    fn each_in_hand(&self) {}
-}
-
-impl<'s, F: WritesField, R: BorrowedRow> BorrowedRow for (&'s F, R) {
-    ghost puts = { λ r. put_then F.field_writing r.0.now (R.puts r.1) };
-
-    ghost have_values = { λ r. F.has_a_value r.0.now × R.have_values r.1 };
-
-    fn put_each(&self, fields: &mut Fields) -> SerializeResult<()> {
-        if fields.goes_back() {
-            return match self.1.put_each(fields) {
-                Ok(()) => self.0.put_field(fields),
-                Err(e) => Err(e),
-            };
-        }
-        match self.0.put_field(fields) {
-            Ok(()) => self.1.put_each(fields),
-            Err(e) => Err(e),
-        }
-    }
-
-    fn each_in_hand(&self) {
-        self.0.field_in_hand();
-        self.1.each_in_hand();
-    }
-}
-
-/// A row of references to fields whose values in hand are all in DER form.
-///
-/// So a struct of such fields has [`AlwaysDer`](crate::laws::AlwaysDer):
-///
-///     impl AlwaysDerBy<FieldsKind> for Measurement {
-///         fn der_by_kind(&self) {
-///             (&self.place, (&self.value, (&self.error, ()))).each_is_der()
-///         }
-///     }
-pub trait DerRow {
-    /// That the value of each field is in DER form.
-    ghost are_in_der: { Self → Type 0 };
-
-    /// States it.
-    fn each_is_der(&self)
-        ensures { are_in_der self.now };
-}
-
-impl DerRow for () {
-    ghost are_in_der = { λ r. Unit {0} };
-
-    fn each_is_der(&self) {}
-}
-
-impl<'s, F: FieldIsDer, R: DerRow> DerRow for (&'s F, R) {
-    ghost are_in_der = { λ r. F.is_in_der r.0.now × R.are_in_der r.1 };
-
-    fn each_is_der(&self) {
-        self.0.field_is_der();
-        self.1.each_is_der();
-    }
 }

@@ -1,8 +1,5 @@
 //! Rows of fields as flat calls, of one to sixteen fields: what puts them, what states something of each of
 //! them, and their types.
-//!
-//! A row of references ([`BorrowedRow`](crate::structs::row::BorrowedRow)) does the same as nested pairs, of fewer
-//! fields: the checker passes a lifetime for each of its pairs.
 
 pub(crate) mod in_der;
 pub(crate) mod in_hand;
