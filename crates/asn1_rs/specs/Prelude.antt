@@ -19,11 +19,10 @@ pub use Rattle.asn1_rs.specs.Choices.Data.{ChecksOf, choice_numbers, choice_of, 
 pub use Rattle.asn1_rs.specs.Copies.{copied_by}
 pub use Rattle.asn1_rs.specs.Grammar.Item.{ber_words}
 pub use Rattle.asn1_rs.specs.Set.{items_of}
-pub use Rattle.asn1_rs.specs.Structs.{MadeOf, by_ber, by_der, is_one_of, puts_of}
+pub use Rattle.asn1_rs.specs.Structs.{MadeOf, by_ber, by_der, is_one_of}
 pub use Rattle.asn1_rs.specs.Structs.Data.{struct_of, struct_type}
 pub use Rattle.asn1_rs.specs.Structs.DefaultTypes.{its_own_type}
 pub use Rattle.asn1_rs.specs.Structs.Keys.{key_of}
 pub use Rattle.asn1_rs.specs.Structs.Members.{struct_members}
-pub use Rattle.asn1_rs.specs.Structs.PartsOfRows.{PartGives, part_of}
 pub use Rattle.asn1_rs.specs.ToDer.{whole_allocates, whole_octets, whole_refuses}
 pub use Rattle.asn1_rs.specs.Whole.{IsWhole, TakesWhole}

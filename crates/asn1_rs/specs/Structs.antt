@@ -6,7 +6,6 @@ pub mod DefaultTypes
 pub mod Flat
 pub mod Keys
 pub mod Members
-pub mod PartsOfRows
 pub mod Reading
 pub mod Types
 pub mod Untold
