@@ -129,7 +129,8 @@ def states(count, name, trait, call, word, what):
     bounds, values = of_fields(count, trait)
     said = clause("ensures", [f"{it}.{word} {it.lower()}.now ×" for it in LETTERS[:count]], "Unit {0}")
     calls = "".join(f"    {it.lower()}.{call}();\n" for it in LETTERS[:count])
-    return f"/// States of the fields in hand that {what}.\npub fn {name}{count}<{bounds}>({values})\n{said}\n{{\n{calls}}}\n"
+    head = f"/// States of the fields in hand that {what}.\npub fn {name}{count}<{bounds}>({values})"
+    return f"{head}\n{said}\n{{\n{calls}}}\n"
 
 
 def rows(count):

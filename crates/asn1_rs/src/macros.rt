@@ -50,35 +50,95 @@ macro_rules! put_fields {
     ($x:expr, $to:expr => $a:ident, $b:ident, $c:ident, $d:ident, $e:ident, $f:ident $(,)?) => {
         $crate::author::put6(&$x.$a, &$x.$b, &$x.$c, &$x.$d, &$x.$e, &$x.$f, $to)
     };
-    ($x:expr, $to:expr => $a:ident, $b:ident, $c:ident, $d:ident, $e:ident, $f:ident, $g:ident $(,)?) => {
+    (
+        $x:expr, $to:expr =>
+        $a:ident, $b:ident, $c:ident, $d:ident, $e:ident, $f:ident, $g:ident $(,)?
+    ) => {
         $crate::author::put7(&$x.$a, &$x.$b, &$x.$c, &$x.$d, &$x.$e, &$x.$f, &$x.$g, $to)
     };
-    ($x:expr, $to:expr => $a:ident, $b:ident, $c:ident, $d:ident, $e:ident, $f:ident, $g:ident, $h:ident $(,)?) => {
+    (
+        $x:expr, $to:expr =>
+        $a:ident, $b:ident, $c:ident, $d:ident, $e:ident, $f:ident, $g:ident, $h:ident $(,)?
+    ) => {
         $crate::author::put8(&$x.$a, &$x.$b, &$x.$c, &$x.$d, &$x.$e, &$x.$f, &$x.$g, &$x.$h, $to)
     };
-    ($x:expr, $to:expr => $a:ident, $b:ident, $c:ident, $d:ident, $e:ident, $f:ident, $g:ident, $h:ident, $i:ident $(,)?) => {
-        $crate::author::put9(&$x.$a, &$x.$b, &$x.$c, &$x.$d, &$x.$e, &$x.$f, &$x.$g, &$x.$h, &$x.$i, $to)
+    (
+        $x:expr, $to:expr =>
+        $a:ident, $b:ident, $c:ident, $d:ident, $e:ident, $f:ident, $g:ident, $h:ident,
+        $i:ident $(,)?
+    ) => {
+        $crate::author::put9(
+            &$x.$a, &$x.$b, &$x.$c, &$x.$d, &$x.$e, &$x.$f, &$x.$g, &$x.$h, &$x.$i, $to
+        )
     };
-    ($x:expr, $to:expr => $a:ident, $b:ident, $c:ident, $d:ident, $e:ident, $f:ident, $g:ident, $h:ident, $i:ident, $j:ident $(,)?) => {
-        $crate::author::put10(&$x.$a, &$x.$b, &$x.$c, &$x.$d, &$x.$e, &$x.$f, &$x.$g, &$x.$h, &$x.$i, &$x.$j, $to)
+    (
+        $x:expr, $to:expr =>
+        $a:ident, $b:ident, $c:ident, $d:ident, $e:ident, $f:ident, $g:ident, $h:ident, $i:ident,
+        $j:ident $(,)?
+    ) => {
+        $crate::author::put10(
+            &$x.$a, &$x.$b, &$x.$c, &$x.$d, &$x.$e, &$x.$f, &$x.$g, &$x.$h, &$x.$i, &$x.$j, $to
+        )
     };
-    ($x:expr, $to:expr => $a:ident, $b:ident, $c:ident, $d:ident, $e:ident, $f:ident, $g:ident, $h:ident, $i:ident, $j:ident, $k:ident $(,)?) => {
-        $crate::author::put11(&$x.$a, &$x.$b, &$x.$c, &$x.$d, &$x.$e, &$x.$f, &$x.$g, &$x.$h, &$x.$i, &$x.$j, &$x.$k, $to)
+    (
+        $x:expr, $to:expr =>
+        $a:ident, $b:ident, $c:ident, $d:ident, $e:ident, $f:ident, $g:ident, $h:ident, $i:ident,
+        $j:ident, $k:ident $(,)?
+    ) => {
+        $crate::author::put11(
+            &$x.$a, &$x.$b, &$x.$c, &$x.$d, &$x.$e, &$x.$f, &$x.$g, &$x.$h, &$x.$i, &$x.$j, &$x.$k,
+            $to
+        )
     };
-    ($x:expr, $to:expr => $a:ident, $b:ident, $c:ident, $d:ident, $e:ident, $f:ident, $g:ident, $h:ident, $i:ident, $j:ident, $k:ident, $l:ident $(,)?) => {
-        $crate::author::put12(&$x.$a, &$x.$b, &$x.$c, &$x.$d, &$x.$e, &$x.$f, &$x.$g, &$x.$h, &$x.$i, &$x.$j, &$x.$k, &$x.$l, $to)
+    (
+        $x:expr, $to:expr =>
+        $a:ident, $b:ident, $c:ident, $d:ident, $e:ident, $f:ident, $g:ident, $h:ident, $i:ident,
+        $j:ident, $k:ident, $l:ident $(,)?
+    ) => {
+        $crate::author::put12(
+            &$x.$a, &$x.$b, &$x.$c, &$x.$d, &$x.$e, &$x.$f, &$x.$g, &$x.$h, &$x.$i, &$x.$j, &$x.$k,
+            &$x.$l, $to
+        )
     };
-    ($x:expr, $to:expr => $a:ident, $b:ident, $c:ident, $d:ident, $e:ident, $f:ident, $g:ident, $h:ident, $i:ident, $j:ident, $k:ident, $l:ident, $m:ident $(,)?) => {
-        $crate::author::put13(&$x.$a, &$x.$b, &$x.$c, &$x.$d, &$x.$e, &$x.$f, &$x.$g, &$x.$h, &$x.$i, &$x.$j, &$x.$k, &$x.$l, &$x.$m, $to)
+    (
+        $x:expr, $to:expr =>
+        $a:ident, $b:ident, $c:ident, $d:ident, $e:ident, $f:ident, $g:ident, $h:ident, $i:ident,
+        $j:ident, $k:ident, $l:ident, $m:ident $(,)?
+    ) => {
+        $crate::author::put13(
+            &$x.$a, &$x.$b, &$x.$c, &$x.$d, &$x.$e, &$x.$f, &$x.$g, &$x.$h, &$x.$i, &$x.$j, &$x.$k,
+            &$x.$l, &$x.$m, $to
+        )
     };
-    ($x:expr, $to:expr => $a:ident, $b:ident, $c:ident, $d:ident, $e:ident, $f:ident, $g:ident, $h:ident, $i:ident, $j:ident, $k:ident, $l:ident, $m:ident, $n:ident $(,)?) => {
-        $crate::author::put14(&$x.$a, &$x.$b, &$x.$c, &$x.$d, &$x.$e, &$x.$f, &$x.$g, &$x.$h, &$x.$i, &$x.$j, &$x.$k, &$x.$l, &$x.$m, &$x.$n, $to)
+    (
+        $x:expr, $to:expr =>
+        $a:ident, $b:ident, $c:ident, $d:ident, $e:ident, $f:ident, $g:ident, $h:ident, $i:ident,
+        $j:ident, $k:ident, $l:ident, $m:ident, $n:ident $(,)?
+    ) => {
+        $crate::author::put14(
+            &$x.$a, &$x.$b, &$x.$c, &$x.$d, &$x.$e, &$x.$f, &$x.$g, &$x.$h, &$x.$i, &$x.$j, &$x.$k,
+            &$x.$l, &$x.$m, &$x.$n, $to
+        )
     };
-    ($x:expr, $to:expr => $a:ident, $b:ident, $c:ident, $d:ident, $e:ident, $f:ident, $g:ident, $h:ident, $i:ident, $j:ident, $k:ident, $l:ident, $m:ident, $n:ident, $o:ident $(,)?) => {
-        $crate::author::put15(&$x.$a, &$x.$b, &$x.$c, &$x.$d, &$x.$e, &$x.$f, &$x.$g, &$x.$h, &$x.$i, &$x.$j, &$x.$k, &$x.$l, &$x.$m, &$x.$n, &$x.$o, $to)
+    (
+        $x:expr, $to:expr =>
+        $a:ident, $b:ident, $c:ident, $d:ident, $e:ident, $f:ident, $g:ident, $h:ident, $i:ident,
+        $j:ident, $k:ident, $l:ident, $m:ident, $n:ident, $o:ident $(,)?
+    ) => {
+        $crate::author::put15(
+            &$x.$a, &$x.$b, &$x.$c, &$x.$d, &$x.$e, &$x.$f, &$x.$g, &$x.$h, &$x.$i, &$x.$j, &$x.$k,
+            &$x.$l, &$x.$m, &$x.$n, &$x.$o, $to
+        )
     };
-    ($x:expr, $to:expr => $a:ident, $b:ident, $c:ident, $d:ident, $e:ident, $f:ident, $g:ident, $h:ident, $i:ident, $j:ident, $k:ident, $l:ident, $m:ident, $n:ident, $o:ident, $p:ident $(,)?) => {
-        $crate::author::put16(&$x.$a, &$x.$b, &$x.$c, &$x.$d, &$x.$e, &$x.$f, &$x.$g, &$x.$h, &$x.$i, &$x.$j, &$x.$k, &$x.$l, &$x.$m, &$x.$n, &$x.$o, &$x.$p, $to)
+    (
+        $x:expr, $to:expr =>
+        $a:ident, $b:ident, $c:ident, $d:ident, $e:ident, $f:ident, $g:ident, $h:ident, $i:ident,
+        $j:ident, $k:ident, $l:ident, $m:ident, $n:ident, $o:ident, $p:ident $(,)?
+    ) => {
+        $crate::author::put16(
+            &$x.$a, &$x.$b, &$x.$c, &$x.$d, &$x.$e, &$x.$f, &$x.$g, &$x.$h, &$x.$i, &$x.$j, &$x.$k,
+            &$x.$l, &$x.$m, &$x.$n, &$x.$o, &$x.$p, $to
+        )
     };
 }
 
@@ -108,32 +168,88 @@ macro_rules! fields_in_hand {
     ($x:expr => $a:ident, $b:ident, $c:ident, $d:ident, $e:ident, $f:ident, $g:ident $(,)?) => {
         $crate::author::in_hand7(&$x.$a, &$x.$b, &$x.$c, &$x.$d, &$x.$e, &$x.$f, &$x.$g)
     };
-    ($x:expr => $a:ident, $b:ident, $c:ident, $d:ident, $e:ident, $f:ident, $g:ident, $h:ident $(,)?) => {
+    (
+        $x:expr =>
+        $a:ident, $b:ident, $c:ident, $d:ident, $e:ident, $f:ident, $g:ident, $h:ident $(,)?
+    ) => {
         $crate::author::in_hand8(&$x.$a, &$x.$b, &$x.$c, &$x.$d, &$x.$e, &$x.$f, &$x.$g, &$x.$h)
     };
-    ($x:expr => $a:ident, $b:ident, $c:ident, $d:ident, $e:ident, $f:ident, $g:ident, $h:ident, $i:ident $(,)?) => {
-        $crate::author::in_hand9(&$x.$a, &$x.$b, &$x.$c, &$x.$d, &$x.$e, &$x.$f, &$x.$g, &$x.$h, &$x.$i)
+    (
+        $x:expr =>
+        $a:ident, $b:ident, $c:ident, $d:ident, $e:ident, $f:ident, $g:ident, $h:ident,
+        $i:ident $(,)?
+    ) => {
+        $crate::author::in_hand9(
+            &$x.$a, &$x.$b, &$x.$c, &$x.$d, &$x.$e, &$x.$f, &$x.$g, &$x.$h, &$x.$i
+        )
     };
-    ($x:expr => $a:ident, $b:ident, $c:ident, $d:ident, $e:ident, $f:ident, $g:ident, $h:ident, $i:ident, $j:ident $(,)?) => {
-        $crate::author::in_hand10(&$x.$a, &$x.$b, &$x.$c, &$x.$d, &$x.$e, &$x.$f, &$x.$g, &$x.$h, &$x.$i, &$x.$j)
+    (
+        $x:expr =>
+        $a:ident, $b:ident, $c:ident, $d:ident, $e:ident, $f:ident, $g:ident, $h:ident, $i:ident,
+        $j:ident $(,)?
+    ) => {
+        $crate::author::in_hand10(
+            &$x.$a, &$x.$b, &$x.$c, &$x.$d, &$x.$e, &$x.$f, &$x.$g, &$x.$h, &$x.$i, &$x.$j
+        )
     };
-    ($x:expr => $a:ident, $b:ident, $c:ident, $d:ident, $e:ident, $f:ident, $g:ident, $h:ident, $i:ident, $j:ident, $k:ident $(,)?) => {
-        $crate::author::in_hand11(&$x.$a, &$x.$b, &$x.$c, &$x.$d, &$x.$e, &$x.$f, &$x.$g, &$x.$h, &$x.$i, &$x.$j, &$x.$k)
+    (
+        $x:expr =>
+        $a:ident, $b:ident, $c:ident, $d:ident, $e:ident, $f:ident, $g:ident, $h:ident, $i:ident,
+        $j:ident, $k:ident $(,)?
+    ) => {
+        $crate::author::in_hand11(
+            &$x.$a, &$x.$b, &$x.$c, &$x.$d, &$x.$e, &$x.$f, &$x.$g, &$x.$h, &$x.$i, &$x.$j, &$x.$k
+        )
     };
-    ($x:expr => $a:ident, $b:ident, $c:ident, $d:ident, $e:ident, $f:ident, $g:ident, $h:ident, $i:ident, $j:ident, $k:ident, $l:ident $(,)?) => {
-        $crate::author::in_hand12(&$x.$a, &$x.$b, &$x.$c, &$x.$d, &$x.$e, &$x.$f, &$x.$g, &$x.$h, &$x.$i, &$x.$j, &$x.$k, &$x.$l)
+    (
+        $x:expr =>
+        $a:ident, $b:ident, $c:ident, $d:ident, $e:ident, $f:ident, $g:ident, $h:ident, $i:ident,
+        $j:ident, $k:ident, $l:ident $(,)?
+    ) => {
+        $crate::author::in_hand12(
+            &$x.$a, &$x.$b, &$x.$c, &$x.$d, &$x.$e, &$x.$f, &$x.$g, &$x.$h, &$x.$i, &$x.$j, &$x.$k,
+            &$x.$l
+        )
     };
-    ($x:expr => $a:ident, $b:ident, $c:ident, $d:ident, $e:ident, $f:ident, $g:ident, $h:ident, $i:ident, $j:ident, $k:ident, $l:ident, $m:ident $(,)?) => {
-        $crate::author::in_hand13(&$x.$a, &$x.$b, &$x.$c, &$x.$d, &$x.$e, &$x.$f, &$x.$g, &$x.$h, &$x.$i, &$x.$j, &$x.$k, &$x.$l, &$x.$m)
+    (
+        $x:expr =>
+        $a:ident, $b:ident, $c:ident, $d:ident, $e:ident, $f:ident, $g:ident, $h:ident, $i:ident,
+        $j:ident, $k:ident, $l:ident, $m:ident $(,)?
+    ) => {
+        $crate::author::in_hand13(
+            &$x.$a, &$x.$b, &$x.$c, &$x.$d, &$x.$e, &$x.$f, &$x.$g, &$x.$h, &$x.$i, &$x.$j, &$x.$k,
+            &$x.$l, &$x.$m
+        )
     };
-    ($x:expr => $a:ident, $b:ident, $c:ident, $d:ident, $e:ident, $f:ident, $g:ident, $h:ident, $i:ident, $j:ident, $k:ident, $l:ident, $m:ident, $n:ident $(,)?) => {
-        $crate::author::in_hand14(&$x.$a, &$x.$b, &$x.$c, &$x.$d, &$x.$e, &$x.$f, &$x.$g, &$x.$h, &$x.$i, &$x.$j, &$x.$k, &$x.$l, &$x.$m, &$x.$n)
+    (
+        $x:expr =>
+        $a:ident, $b:ident, $c:ident, $d:ident, $e:ident, $f:ident, $g:ident, $h:ident, $i:ident,
+        $j:ident, $k:ident, $l:ident, $m:ident, $n:ident $(,)?
+    ) => {
+        $crate::author::in_hand14(
+            &$x.$a, &$x.$b, &$x.$c, &$x.$d, &$x.$e, &$x.$f, &$x.$g, &$x.$h, &$x.$i, &$x.$j, &$x.$k,
+            &$x.$l, &$x.$m, &$x.$n
+        )
     };
-    ($x:expr => $a:ident, $b:ident, $c:ident, $d:ident, $e:ident, $f:ident, $g:ident, $h:ident, $i:ident, $j:ident, $k:ident, $l:ident, $m:ident, $n:ident, $o:ident $(,)?) => {
-        $crate::author::in_hand15(&$x.$a, &$x.$b, &$x.$c, &$x.$d, &$x.$e, &$x.$f, &$x.$g, &$x.$h, &$x.$i, &$x.$j, &$x.$k, &$x.$l, &$x.$m, &$x.$n, &$x.$o)
+    (
+        $x:expr =>
+        $a:ident, $b:ident, $c:ident, $d:ident, $e:ident, $f:ident, $g:ident, $h:ident, $i:ident,
+        $j:ident, $k:ident, $l:ident, $m:ident, $n:ident, $o:ident $(,)?
+    ) => {
+        $crate::author::in_hand15(
+            &$x.$a, &$x.$b, &$x.$c, &$x.$d, &$x.$e, &$x.$f, &$x.$g, &$x.$h, &$x.$i, &$x.$j, &$x.$k,
+            &$x.$l, &$x.$m, &$x.$n, &$x.$o
+        )
     };
-    ($x:expr => $a:ident, $b:ident, $c:ident, $d:ident, $e:ident, $f:ident, $g:ident, $h:ident, $i:ident, $j:ident, $k:ident, $l:ident, $m:ident, $n:ident, $o:ident, $p:ident $(,)?) => {
-        $crate::author::in_hand16(&$x.$a, &$x.$b, &$x.$c, &$x.$d, &$x.$e, &$x.$f, &$x.$g, &$x.$h, &$x.$i, &$x.$j, &$x.$k, &$x.$l, &$x.$m, &$x.$n, &$x.$o, &$x.$p)
+    (
+        $x:expr =>
+        $a:ident, $b:ident, $c:ident, $d:ident, $e:ident, $f:ident, $g:ident, $h:ident, $i:ident,
+        $j:ident, $k:ident, $l:ident, $m:ident, $n:ident, $o:ident, $p:ident $(,)?
+    ) => {
+        $crate::author::in_hand16(
+            &$x.$a, &$x.$b, &$x.$c, &$x.$d, &$x.$e, &$x.$f, &$x.$g, &$x.$h, &$x.$i, &$x.$j, &$x.$k,
+            &$x.$l, &$x.$m, &$x.$n, &$x.$o, &$x.$p
+        )
     };
 }
 
@@ -163,31 +279,87 @@ macro_rules! fields_in_der {
     ($x:expr => $a:ident, $b:ident, $c:ident, $d:ident, $e:ident, $f:ident, $g:ident $(,)?) => {
         $crate::author::in_der7(&$x.$a, &$x.$b, &$x.$c, &$x.$d, &$x.$e, &$x.$f, &$x.$g)
     };
-    ($x:expr => $a:ident, $b:ident, $c:ident, $d:ident, $e:ident, $f:ident, $g:ident, $h:ident $(,)?) => {
+    (
+        $x:expr =>
+        $a:ident, $b:ident, $c:ident, $d:ident, $e:ident, $f:ident, $g:ident, $h:ident $(,)?
+    ) => {
         $crate::author::in_der8(&$x.$a, &$x.$b, &$x.$c, &$x.$d, &$x.$e, &$x.$f, &$x.$g, &$x.$h)
     };
-    ($x:expr => $a:ident, $b:ident, $c:ident, $d:ident, $e:ident, $f:ident, $g:ident, $h:ident, $i:ident $(,)?) => {
-        $crate::author::in_der9(&$x.$a, &$x.$b, &$x.$c, &$x.$d, &$x.$e, &$x.$f, &$x.$g, &$x.$h, &$x.$i)
+    (
+        $x:expr =>
+        $a:ident, $b:ident, $c:ident, $d:ident, $e:ident, $f:ident, $g:ident, $h:ident,
+        $i:ident $(,)?
+    ) => {
+        $crate::author::in_der9(
+            &$x.$a, &$x.$b, &$x.$c, &$x.$d, &$x.$e, &$x.$f, &$x.$g, &$x.$h, &$x.$i
+        )
     };
-    ($x:expr => $a:ident, $b:ident, $c:ident, $d:ident, $e:ident, $f:ident, $g:ident, $h:ident, $i:ident, $j:ident $(,)?) => {
-        $crate::author::in_der10(&$x.$a, &$x.$b, &$x.$c, &$x.$d, &$x.$e, &$x.$f, &$x.$g, &$x.$h, &$x.$i, &$x.$j)
+    (
+        $x:expr =>
+        $a:ident, $b:ident, $c:ident, $d:ident, $e:ident, $f:ident, $g:ident, $h:ident, $i:ident,
+        $j:ident $(,)?
+    ) => {
+        $crate::author::in_der10(
+            &$x.$a, &$x.$b, &$x.$c, &$x.$d, &$x.$e, &$x.$f, &$x.$g, &$x.$h, &$x.$i, &$x.$j
+        )
     };
-    ($x:expr => $a:ident, $b:ident, $c:ident, $d:ident, $e:ident, $f:ident, $g:ident, $h:ident, $i:ident, $j:ident, $k:ident $(,)?) => {
-        $crate::author::in_der11(&$x.$a, &$x.$b, &$x.$c, &$x.$d, &$x.$e, &$x.$f, &$x.$g, &$x.$h, &$x.$i, &$x.$j, &$x.$k)
+    (
+        $x:expr =>
+        $a:ident, $b:ident, $c:ident, $d:ident, $e:ident, $f:ident, $g:ident, $h:ident, $i:ident,
+        $j:ident, $k:ident $(,)?
+    ) => {
+        $crate::author::in_der11(
+            &$x.$a, &$x.$b, &$x.$c, &$x.$d, &$x.$e, &$x.$f, &$x.$g, &$x.$h, &$x.$i, &$x.$j, &$x.$k
+        )
     };
-    ($x:expr => $a:ident, $b:ident, $c:ident, $d:ident, $e:ident, $f:ident, $g:ident, $h:ident, $i:ident, $j:ident, $k:ident, $l:ident $(,)?) => {
-        $crate::author::in_der12(&$x.$a, &$x.$b, &$x.$c, &$x.$d, &$x.$e, &$x.$f, &$x.$g, &$x.$h, &$x.$i, &$x.$j, &$x.$k, &$x.$l)
+    (
+        $x:expr =>
+        $a:ident, $b:ident, $c:ident, $d:ident, $e:ident, $f:ident, $g:ident, $h:ident, $i:ident,
+        $j:ident, $k:ident, $l:ident $(,)?
+    ) => {
+        $crate::author::in_der12(
+            &$x.$a, &$x.$b, &$x.$c, &$x.$d, &$x.$e, &$x.$f, &$x.$g, &$x.$h, &$x.$i, &$x.$j, &$x.$k,
+            &$x.$l
+        )
     };
-    ($x:expr => $a:ident, $b:ident, $c:ident, $d:ident, $e:ident, $f:ident, $g:ident, $h:ident, $i:ident, $j:ident, $k:ident, $l:ident, $m:ident $(,)?) => {
-        $crate::author::in_der13(&$x.$a, &$x.$b, &$x.$c, &$x.$d, &$x.$e, &$x.$f, &$x.$g, &$x.$h, &$x.$i, &$x.$j, &$x.$k, &$x.$l, &$x.$m)
+    (
+        $x:expr =>
+        $a:ident, $b:ident, $c:ident, $d:ident, $e:ident, $f:ident, $g:ident, $h:ident, $i:ident,
+        $j:ident, $k:ident, $l:ident, $m:ident $(,)?
+    ) => {
+        $crate::author::in_der13(
+            &$x.$a, &$x.$b, &$x.$c, &$x.$d, &$x.$e, &$x.$f, &$x.$g, &$x.$h, &$x.$i, &$x.$j, &$x.$k,
+            &$x.$l, &$x.$m
+        )
     };
-    ($x:expr => $a:ident, $b:ident, $c:ident, $d:ident, $e:ident, $f:ident, $g:ident, $h:ident, $i:ident, $j:ident, $k:ident, $l:ident, $m:ident, $n:ident $(,)?) => {
-        $crate::author::in_der14(&$x.$a, &$x.$b, &$x.$c, &$x.$d, &$x.$e, &$x.$f, &$x.$g, &$x.$h, &$x.$i, &$x.$j, &$x.$k, &$x.$l, &$x.$m, &$x.$n)
+    (
+        $x:expr =>
+        $a:ident, $b:ident, $c:ident, $d:ident, $e:ident, $f:ident, $g:ident, $h:ident, $i:ident,
+        $j:ident, $k:ident, $l:ident, $m:ident, $n:ident $(,)?
+    ) => {
+        $crate::author::in_der14(
+            &$x.$a, &$x.$b, &$x.$c, &$x.$d, &$x.$e, &$x.$f, &$x.$g, &$x.$h, &$x.$i, &$x.$j, &$x.$k,
+            &$x.$l, &$x.$m, &$x.$n
+        )
     };
-    ($x:expr => $a:ident, $b:ident, $c:ident, $d:ident, $e:ident, $f:ident, $g:ident, $h:ident, $i:ident, $j:ident, $k:ident, $l:ident, $m:ident, $n:ident, $o:ident $(,)?) => {
-        $crate::author::in_der15(&$x.$a, &$x.$b, &$x.$c, &$x.$d, &$x.$e, &$x.$f, &$x.$g, &$x.$h, &$x.$i, &$x.$j, &$x.$k, &$x.$l, &$x.$m, &$x.$n, &$x.$o)
+    (
+        $x:expr =>
+        $a:ident, $b:ident, $c:ident, $d:ident, $e:ident, $f:ident, $g:ident, $h:ident, $i:ident,
+        $j:ident, $k:ident, $l:ident, $m:ident, $n:ident, $o:ident $(,)?
+    ) => {
+        $crate::author::in_der15(
+            &$x.$a, &$x.$b, &$x.$c, &$x.$d, &$x.$e, &$x.$f, &$x.$g, &$x.$h, &$x.$i, &$x.$j, &$x.$k,
+            &$x.$l, &$x.$m, &$x.$n, &$x.$o
+        )
     };
-    ($x:expr => $a:ident, $b:ident, $c:ident, $d:ident, $e:ident, $f:ident, $g:ident, $h:ident, $i:ident, $j:ident, $k:ident, $l:ident, $m:ident, $n:ident, $o:ident, $p:ident $(,)?) => {
-        $crate::author::in_der16(&$x.$a, &$x.$b, &$x.$c, &$x.$d, &$x.$e, &$x.$f, &$x.$g, &$x.$h, &$x.$i, &$x.$j, &$x.$k, &$x.$l, &$x.$m, &$x.$n, &$x.$o, &$x.$p)
+    (
+        $x:expr =>
+        $a:ident, $b:ident, $c:ident, $d:ident, $e:ident, $f:ident, $g:ident, $h:ident, $i:ident,
+        $j:ident, $k:ident, $l:ident, $m:ident, $n:ident, $o:ident, $p:ident $(,)?
+    ) => {
+        $crate::author::in_der16(
+            &$x.$a, &$x.$b, &$x.$c, &$x.$d, &$x.$e, &$x.$f, &$x.$g, &$x.$h, &$x.$i, &$x.$j, &$x.$k,
+            &$x.$l, &$x.$m, &$x.$n, &$x.$o, &$x.$p
+        )
     };
 }

@@ -1,7 +1,7 @@
 //! Types that are written as fields of structs, by one trait ([`WritesType`]).
 //!
-//! As for reading ([`reading`](crate::structs::reading)) it is a field's only bound, without supertraits. A leaf type of
-//! the library has an impl without bounds, in `leaves_put`. What has a kind has it by that ([`WritesTypeBy`]).
+//! As for reading ([`reading`](crate::structs::reading)) it is a field's only bound, without supertraits. A leaf type
+//! of the library has an impl without bounds, in `leaves_put`. What has a kind has it by that ([`WritesTypeBy`]).
 ghost use Rattle.asn1_rs.specs.Fields.{taken_in, PutsField};
 ghost use Rattle.asn1_rs.specs.Structs.Data.{grammar_of_struct, writing_of_struct};
 ghost use Rattle.asn1_rs.specs.Structs.Reading.{HasItsValue};
