@@ -390,12 +390,136 @@ def modules(program, room):
     yield "types, no such file", (ended.returncode, ended.stderr.count(b"\n"), ended.stdout), (2, 1, b"")
 
 
+# Modules with each kind of type and of default value, and their normal form.
+WRITTEN = b"""M DEFINITIONS ::= BEGIN
+v INTEGER ::= 5
+base OBJECT IDENTIFIER ::= { iso member-body(2) 840 }
+Alias ::= Leaves
+Leaves ::= SEQUENCE { a BOOLEAN DEFAULT TRUE, b [0] INTEGER { one(1), two(2) } DEFAULT two, c INTEGER (0..v) DEFAULT -3,
+  d Listed DEFAULT green, e [1] IMPLICIT BIT STRING { x(0), y(9) } DEFAULT { y, x }, f BIT STRING DEFAULT '0101'B,
+  g OCTET STRING (SIZE (1..MAX)) DEFAULT '0fA'H, h UTF8String DEFAULT "a""b", i OBJECT IDENTIFIER DEFAULT { base 5 },
+  j RELATIVE-OID DEFAULT { 8571 3 }, k NULL DEFAULT NULL, l List DEFAULT {}, m [2] EXPLICIT UTCTime OPTIONAL, ... }
+Listed ::= ENUMERATED { red, green(5), ..., blue }
+Chosen ::= CHOICE { time GeneralizedTime, text BMPString (SIZE (1..4)) (FROM ("a")), ..., any [5] ANY }
+List ::= SEQUENCE SIZE (1..5) OF IA5String (SIZE (3))
+Shorter ::= [APPLICATION 2] IMPLICIT List (SIZE (2..3))
+Copies ::= SET { a [0] IMPLICIT Leaves, b [1] Chosen OPTIONAL, c [2] IMPLICIT Shorter, d [3] IMPLICIT Copies OPTIONAL,
+  e [PRIVATE 4] IMPLICIT Listed, f [5] SET OF Copies, g SEQUENCE {}, h NULL }
+END
+N DEFINITIONS AUTOMATIC TAGS ::= BEGIN
+IMPORTS Leaves FROM M;
+Row ::= SEQUENCE { a Leaves, b M.Listed, c CHOICE { x Row, y NULL } }
+END
+"""
+NORMAL = b"""M DEFINITIONS EXPLICIT TAGS ::= BEGIN
+
+Alias ::= Leaves
+
+Leaves ::= SEQUENCE {
+    a BOOLEAN DEFAULT TRUE,
+    b [0] EXPLICIT INTEGER {
+        one(1),
+        two(2)
+    } DEFAULT two,
+    c INTEGER (0..5) DEFAULT -3,
+    d Listed DEFAULT green,
+    e [1] IMPLICIT BIT STRING {
+        x(0),
+        y(9)
+    } DEFAULT { x, y },
+    f BIT STRING DEFAULT '0101'B,
+    g OCTET STRING (SIZE (1..MAX)) DEFAULT '0FA0'H,
+    h UTF8String DEFAULT "a""b",
+    i OBJECT IDENTIFIER DEFAULT { 1 2 840 5 },
+    j RELATIVE-OID DEFAULT { 8571 3 },
+    k NULL DEFAULT NULL,
+    l List DEFAULT { },
+    m [2] EXPLICIT UTCTime OPTIONAL,
+    ...
+}
+
+Listed ::= ENUMERATED {
+    red(0),
+    green(5),
+    blue(1),
+    ...
+}
+
+Chosen ::= CHOICE {
+    time GeneralizedTime,
+    text BMPString (SIZE (1..4)),
+    any [5] EXPLICIT ANY,
+    ...
+}
+
+List ::= SEQUENCE SIZE (1..5) OF IA5String (SIZE (3..3))
+
+Shorter ::= [APPLICATION 2] IMPLICIT List (SIZE (2..3))
+
+Copies ::= SET {
+    a [0] IMPLICIT Leaves,
+    b [1] EXPLICIT Chosen OPTIONAL,
+    c [2] IMPLICIT Shorter,
+    d [3] IMPLICIT Copies OPTIONAL,
+    e [PRIVATE 4] IMPLICIT Listed,
+    f [5] EXPLICIT SET OF Copies,
+    g SEQUENCE { },
+    h NULL
+}
+
+END
+
+N DEFINITIONS EXPLICIT TAGS ::= BEGIN
+
+Row ::= SEQUENCE {
+    a [0] IMPLICIT M.Leaves,
+    b [1] IMPLICIT M.Listed,
+    c [2] EXPLICIT CHOICE {
+        x [0] IMPLICIT Row,
+        y [1] IMPLICIT NULL
+    }
+}
+
+END
+"""
+
+
+def normal_forms(program, room):
+    """Yields the normal forms of modules, and what is told of these when they are read again."""
+    module, again = room / "module", room / "again"
+    module.write_bytes(WRITTEN)
+    built_in = run(program, "types", "--normal")
+    for name, words, text in (("each kind", ["--module", module], NORMAL), ("built in", [], built_in.stdout)):
+        ended = run(program, "types", "--normal", *words)
+        yield f"normal form, {name}", (ended.returncode, ended.stdout), (0, text)
+        again.write_bytes(text)
+        ended = run(program, "types", "--normal", "--module", again)
+        yield f"normal form of a normal form, {name}", (ended.returncode, ended.stdout), (0, text)
+        listed = [it for it in run(program, "types", *words).stdout.splitlines() if not it.startswith(bytes(module))]
+        yield f"types of a normal form, {name}", run(program, "types", "--module", again).stdout.splitlines(), listed
+    certificate = FOLDER / "data/certificate.pem"
+    ended = run(program, "decode", "--module", again, certificate)
+    yield "decode by a normal form", (ended.returncode, ended.stdout), (0, run(program, "decode", certificate).stdout)
+    for name, text, status, told in (
+            ("a mistake", b"M DEFINITIONS ::= BEGIN\nP ::= SEQUENCE { a }\nEND\n", 1, bytes(module) + b":2:20: expected a type\n"),
+            ("no types", b"M DEFINITIONS ::= BEGIN v INTEGER ::= 5 END", 0, b""),
+            ("no notation", b"M DEFINITIONS ::= BEGIN A ::= SEQUENCE { i OBJECT IDENTIFIER DEFAULT { 2 9223372036854775807 } } END", 1,
+             b"M DEFINITIONS EXPLICIT TAGS ::= BEGIN\n\nA ::= SEQUENCE {\n    i OBJECT IDENTIFIER DEFAULT ..\n}\n\nEND\n")):
+        module.write_bytes(text)
+        ended = run(program, "types", "--normal", "--module", module)
+        yield f"normal form, {name}", (ended.returncode, ended.stdout), (status, told)
+
+
 DECODED = b"""M DEFINITIONS ::= BEGIN
 A ::= SEQUENCE { a BOOLEAN DEFAULT FALSE, b [0] IMPLICIT INTEGER OPTIONAL, c C, ... }
 C ::= CHOICE { n NULL, i INTEGER { one(1) }, e ENUMERATED { red, green(5) }, s SEQUENCE OF INTEGER (-9..9) }
 D ::= SET { bits BIT STRING { zero(0), one(1) }, octets OCTET STRING, id OBJECT IDENTIFIER, text UTF8String }
 E ::= SEQUENCE { time UTCTime, wide BMPString, any ANY, relative [1] IMPLICIT RELATIVE-OID }
 G ::= SET OF INTEGER
+H ::= SEQUENCE OF A
+I ::= [5] EXPLICIT SEQUENCE { n NULL, x A }
+J ::= SEQUENCE { x BOOLEAN DEFAULT FALSE, y [1] EXPLICIT G }
+K ::= BIT STRING { zero(0), one(1) }
 END
 """
 # Types, values of them, what is asked besides, the status, the lines of output (X.697), and what is told.
@@ -414,7 +538,7 @@ VALUES = [
     ("A", "30020500" "30050101ff0500", ("--lines",), 0, ['{"a":false,"c":{"n":null}}', '{"a":true,"c":{"n":null}}'], ""),
     ("A", "30020500" "30020400", ("--lines",), 1, ['{"a":false,"c":{"n":null}}'], "FILE: octet 6, c (C): a component is missing"),
     ("A", "", ("--lines",), 1, [], "asn1: FILE: the file is empty"),
-    ("A", "308005000000", (), 1, [], "FILE: octet 0 (A): no element begins here, or it is cut"),
+    ("A", "308005000000", (), 1, [], "FILE: octet 0 (A): no element begins here, or it is truncated"),
     ("A", "3002050030", (), 1, [], "FILE: octet 4 (A): octets follow where none may"),
     ("C", "300302010a", (), 1, [], "FILE: octet 2, s[0] (INTEGER within -9..9): the number or the size is out of bounds"),
     ("F", "0500", (), 2, [], "asn1: FILE: no type F in the modules"),
@@ -424,13 +548,103 @@ VALUES = [
 STRICT = [
     ("A", "30020500", 0, "FILE: strict DER of A"),
     ("A", "30090101ff800102020101", 0, "FILE: strict DER of A"),
-    ("A", "30090101008001020500", 1, "FILE: octet 0 (A): no element begins here, or it is cut"),
-    ("A", "30080101008001020500", 1, "FILE: octet 1: the strict encoding of the value differs here"),
+    ("A", "30090101008001020500", 1, "FILE: octet 0 (A): no element begins here, or it is truncated"),
+    ("A", "30080101008001020500", 1, "FILE: octet 1 (A): the strict encoding of the value differs here; a default stands at octet 2, a"),
+    ("H", "300e" "30020500" "30080101008001020500", 1,
+     "FILE: octet 1 (H): the strict encoding of the value differs here; a default stands at octet 8, [1].a"),
+    ("I", "a50e300c0500" "30080101008001020500", 1,
+     "FILE: octet 1 (I): the strict encoding of the value differs here; a default stands at octet 8, x.a"),
+    ("I", "a508300605003004" "0500", 1, "FILE: octet 6, x (A): a component is missing"),
+    ("H", "300430030500", 1, "FILE: octet 2, [0] (A): no element begins here, or it is truncated"),
+    ("H", "30040101ff00", 1, "FILE: octet 2, [0] (A): the tag is not one of the type"),
     ("D", "3119030206c004020aff06032a86480c0a6122c3a95c0af09f9880", 0, "FILE: strict DER of D"),
     ("D", "3119030206c004020aff0c0a6122c3a95c0af09f988006032a8648", 1, "FILE: octet 22, id (D): the elements of a set do not ascend by their tags"),
     ("C", "300302010a", 1, "FILE: octet 2, s[0] (INTEGER within -9..9): the number or the size is out of bounds"),
-    ("G", "3106020101020100", 1, "FILE: the value has no strict encoding: a SET OF does not ascend, or named bits end in zeros"),
+    ("G", "3106020101020100", 1, "FILE: octet 5, [1] (G): the value has no strict encoding: a SET OF does not ascend"),
+    ("J", "3010" "0101ff" "a10b" "3109" "020101" "020103" "020102", 1,
+     "FILE: octet 15, y[2] (J): the value has no strict encoding: a SET OF does not ascend"),
+    ("K", "030206c0", 0, "FILE: strict DER of K"),
+    ("K", "03020640", 0, "FILE: strict DER of K"),
+    ("K", "03020540", 1, "FILE: octet 2 (K): the contents octets have no value of the type"),
 ]
+
+
+# Types, JSON, and its strict encoding (X.697, X.690).
+SAID = [
+    ("A", '{"c":{"n":null}}', "30020500"),
+    ("A", ' { "...": ["0C00"], "c" : {"n":null}, "a": false } ', "300405000c00"),
+    ("A", '{"c":{"i":1},"b":2,"a":true}', "30090101ff800102020101"),
+    ("A", '{"c":{"e":0}}', "30030a0100"),
+    ("D", '{"octets":"0AFF","text":"\\u00e9","id":"2.999.0","bits":{"length":0,"value":""}}',
+     "3110030100" "04020aff" "0603883700" "0c02c3a9"),
+    ("C", '{"i":-170141183460469231731687303715884105729}', "0211ff7fffffffffffffffffffffffffffffff"),
+    ("C", '{"i":128}', "02020080"),
+    ("C", '{"i":-256}', "0202ff00"),
+    ("G", "[256,1,0,-1,1]", "3110" "020100" "020101" "020101" "0201ff" "02020100"),
+    ("E", '{"time":"261130090000Z","wide":"𝄞","any":"a003020105","relative":"8571.3"}',
+     "301f" "170d3236313133303039303030305a" "1e04d834dd1e" "a003020105" "8103c27b03"),
+]
+# Types, JSON, and what is told of it.
+NOT_SAID = [
+    ("A", "", "FILE:1:1 (A): the text is no JSON from here on, or it nests deeper than 128"),
+    ("A", '{"c":{"n":null}', "FILE:1:16 (A): the text is no JSON from here on, or it nests deeper than 128"),
+    ("A", "[" * 129 + "]" * 129, "FILE:1:130 (A): the text is no JSON from here on, or it nests deeper than 128"),
+    ("A", "[]", "FILE:1:1 (A): expected an object"),
+    ("A", "{}", "FILE:1:1, c (C): a component is missing"),
+    ("A", '{"a":1,"c":{"n":null}}', "FILE:1:6, a (BOOLEAN): expected true or false"),
+    ("A", '{"c":{"n":null},\n "d":1}', "FILE:2:2 (A): the type has no part with this name"),
+    ("A", '{"c":{"n":null},\n "c":1}', "FILE:2:2 (A): the name stands there more than once"),
+    ("A", '{"c":{"n":null},"...":[0]}', "FILE:1:24, ...[0] (ANY): expected a string of one element in hexadecimal, with a strict header"),
+    ("A", '{"c":{"n":null},"...":["0501"]}', "FILE:1:24, ...[0] (ANY): expected a string of one element in hexadecimal, with a strict header"),
+    ("A", '{"c":{"n":null},"...":["0000"]}', "FILE:1:24, ...[0] (ANY): the value is none of the type"),
+    ("A", '{"c":{"x":null}}', "FILE:1:7, c (C): the type has no part with this name"),
+    ("A", '{"c":{}}', "FILE:1:6, c (C): expected an object with one member"),
+    ("A", '{"c":{"n":false}}', "FILE:1:11, c.n (NULL): expected null"),
+    ("A", '{"c":{"i":1.0}}', "FILE:1:11, c.i (INTEGER): expected a number without fraction and exponent"),
+    ("A", '{"c":{"i":-0}}', "FILE:1:11, c.i (INTEGER): expected a number without fraction and exponent"),
+    ("A", '{"c":{"e":"blue"}}', "FILE:1:11, c.e (e): expected a name that the type has, or a number"),
+    ("A", '{"c":{"e":6}}', "FILE:1:11, c.e (e): the value is none of the type"),
+    ("C", '{"s":[0,\n10]}', "FILE:2:1, s[1] (INTEGER within -9..9): the value is none of the type"),
+    ("D", '{"bits":"00"}', "FILE:1:9, bits (BIT STRING): expected an object of value, in hexadecimal, and length, in bits"),
+    ("D", '{"bits":{"value":"c0","length":1}}', "FILE:1:9, bits (BIT STRING): expected an object of value, in hexadecimal, and length, in bits"),
+    ("D", '{"bits":{"value":"80","length":2}}', "FILE:1:9, bits (BIT STRING): the value is none of the type"),
+    ("D", '{"bits":{"value":"","length":0},"octets":"0"}', "FILE:1:42, octets (OCTET STRING): expected a string of hexadecimal digits, two for each octet"),
+    ("E", '{"time":"2026"}', "FILE:1:9, time (UTCTime): the value is none of the type"),
+    ("E", '{"time":20}', "FILE:1:9, time (UTCTime): expected a string"),
+    ("D", '{"bits":{"value":"","length":0},"octets":"","id":"1.40"}', "FILE:1:50, id (OBJECT IDENTIFIER): expected a string of arcs with points between them"),
+    ("D", '{"bits":{"value":"","length":0},"octets":"","id":"1.02.3"}', "FILE:1:50, id (OBJECT IDENTIFIER): expected a string of arcs with points between them"),
+]
+
+
+def encoded(program, room):
+    """Yields the octets of JSON, by a type of a module, and what is told where there are none."""
+    module, file, written = room / "module", room / "json", room / "written"
+    module.write_bytes(DECODED)
+    there = [(name, lines[0], octets) for name, octets, asked, status, lines, _ in VALUES if status == 0 and not asked]
+    for name, text, octets in [*there, *SAID]:
+        file.write_text(text, encoding="utf-8")
+        ended = run(program, "encode", "--module", module, "--type", name, file)
+        yield f"encode, {name} of {text}", (ended.returncode, ended.stdout.hex(), ended.stderr), (0, octets, b"")
+    for name, text, told in NOT_SAID:
+        file.write_text(text, encoding="utf-8")
+        ended = run(program, "encode", "--module", module, "--type", name, "-o", written, file)
+        seen = (ended.returncode, ended.stdout, ended.stderr.strip(), written.exists())
+        yield f"encode, {name} of {text[:80]}", seen, (1, b"", told.replace("FILE", str(file)).encode(), False)
+    file.write_bytes(b'"\xff"')
+    ended = run(program, "encode", "--module", module, "--type", "A", file)
+    yield "encode, no UTF-8", (ended.returncode, ended.stderr.strip()), (1, f"{file}:1:2 (A): the text is no UTF-8 from here on".encode())
+    for words in (["--type", "None", file], ["--type", "Certificate", room / "none"], ["--type", "A", "--pem", "-", file], [file]):
+        ended = run(program, "encode", *words)
+        yield f"encode, {words[:-1]}", (ended.returncode, ended.stdout), (2, b"")
+
+
+def element_told(program, file, told):
+    """The line of `dump` for the element at the octet of a refusal, if one begins there."""
+    place = re.match(r"FILE: octet (\d+)", told)
+    if not place:
+        return []
+    lines = run(program, "dump", "--from", "der", "--no-inner", "--at", place[1], file).stdout.splitlines()
+    return [it for it in lines[:1] if b" no element: " not in it]
 
 
 def values(program, room):
@@ -440,8 +654,9 @@ def values(program, room):
     for name, octets, asked, status, lines, told in VALUES:
         file.write_bytes(bytes.fromhex(octets))
         ended = run(program, "decode", "--from", "der", "--module", module, "--type", name, *asked, file)
-        expected = (status, [it.encode() for it in lines], told.replace("FILE", str(file)).encode())
-        yield f"decode, {name} of {octets}", (ended.returncode, ended.stdout.splitlines(), ended.stderr.strip()), expected
+        refused = [told.replace("FILE", str(file)).encode()] if told else []
+        expected = (status, [it.encode() for it in lines], refused + element_told(program, file, told))
+        yield f"decode, {name} of {octets}", (ended.returncode, ended.stdout.splitlines(), ended.stderr.splitlines()), expected
     for name, octets, status, told in STRICT:
         file.write_bytes(bytes.fromhex(octets))
         ended = run(program, "check", "--from", "der", "--module", module, "--type", name, file)
@@ -457,6 +672,8 @@ def certificates(program):
         signed = json.loads(ended.stdout)["tbsCertificate"]
         seen = (ended.returncode, signed["serialNumber"], set(signed) >= {"issuer", "validity", "subject", "subjectPublicKeyInfo"})
         yield f"decode, {path.name}", seen, (0, int(said.stdout.partition("=")[2], 16), True)
+        back = run(program, "encode", "--type", "Certificate", "--pem", "CERTIFICATE", "-", input=ended.stdout)
+        yield f"encode, {path.name}", (back.returncode, back.stdout.split(), back.stderr), (0, path.read_bytes().split(), b"")
 
 
 def main():
@@ -464,7 +681,8 @@ def main():
         room, wrong, count = pathlib.Path(name), 0, 0
         program = sys.argv[1]
         for rows in (trees(program), odd_files(program, room), refusals(program, room), forms(program, room),
-                     failures(program, room), modules(program, room), values(program, room), certificates(program),
+                     failures(program, room), modules(program, room), normal_forms(program, room), values(program, room),
+                     encoded(program, room), certificates(program),
                      verdicts(program, room, 5000)):
             for what, seen, expected in rows:
                 count += 1

@@ -45,7 +45,7 @@ impl<'a> WritesType for {leaf} {{
         fields.put(self)
     }}
 
-    fn type_in_hand(&self) {{
+    fn assert_type_valid(&self) {{
         self.has_value();
     }}
 }}
@@ -147,8 +147,8 @@ FILES = {
     "leaves_by_ber": lambda: [read("Ber", leaf) for leaf in leaves()],
     "leaves_put": lambda: [put(leaf) for leaf in leaves()],
     "flat/puts": lambda: [puts(count) for count in range(1, 17)],
-    "flat/in_hand": lambda: [
-        states(count, "in_hand", "WritesField", "field_in_hand", "has_a_value", "their values are those of their types")
+    "flat/assert_valid": lambda: [
+        states(count, "assert_valid", "WritesField", "assert_field_valid", "has_a_value", "their values are those of their types")
         for count in range(1, 17)
     ],
     "flat/rows": lambda: [rows(count) for count in range(1, 17)],

@@ -166,6 +166,8 @@ BUDGETS = {
     "docs/DIFFERENCES.md": 1700,
     "docs/SPEED.md": 900,
     "CONTRIBUTING.md": 1500,
+    "crates/asn1_json/README.md": 1000,
+    "crates/asn1_typed/README.md": 850,
     "crates/x690/src/lib.rt": 300,
     "crates/asn1_headers/src/lib.rt": 300,
     "crates/asn1_rs/src/lib.rt": 300,

@@ -1,8 +1,10 @@
 //! What is in a file, and whether it is strict DER.
 #![tactic(auto)]
 
+mod encoding;
 mod files;
 mod modules;
+mod pem;
 mod run;
 mod typed;
 mod words;

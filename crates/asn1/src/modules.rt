@@ -4,7 +4,7 @@ use crate::files::{Document, read, told};
 use asn1_engine::RunError;
 use asn1_engine::outcome::Outcome;
 use asn1_typed::standards::standards;
-use asn1_typed::{Source, types};
+use asn1_typed::{Source, normal_form, types};
 use std::alloc::{AllocError, Global};
 use std::io;
 use std::io::{BufWriter, Write};
@@ -53,27 +53,37 @@ pub fn sources<'a>(
     Ok(sources)
 }
 
-/// Prints the types of modules.
-fn list<R: Print + AllocGlobal>(rt: &R, sources: &[Source<'_>]) -> Result<Outcome, RunError> {
+/// Prints the types of modules, or the modules in their normal form.
+fn list<R: Print + AllocGlobal>(
+    rt: &R,
+    is_normal: bool,
+    sources: &[Source<'_>],
+) -> Result<Outcome, RunError> {
     let alloc = rt.alloc();
     let mut out = BufWriter::new(alloc, io::writer(rt)).map_err(|_| RunError::OutOfMemory)?;
-    let finding = types(alloc, sources, &mut out)?;
+    let finding = if is_normal {
+        normal_form(alloc, sources, &mut out)?
+    } else {
+        types(alloc, sources, &mut out)?
+    };
     out.flush()?;
     Ok(Outcome::Found(finding))
 }
 
-/// Prints the types of the modules of files, or of those that are built in where no file is named.
+/// Prints the types of the modules of files, or of those that are built in where no file is named; or the modules in
+/// their normal form.
 pub fn answer_types<R: Files + Input + Print + Eprint + AllocGlobal>(
     rt: &R,
+    is_normal: bool,
     paths: &[&str],
     most: u64,
 ) -> Result<Outcome, RunError> {
     let alloc = rt.alloc();
     if paths.is_empty() {
-        return list(rt, &standards(alloc)?);
+        return list(rt, is_normal, &standards(alloc)?);
     }
     let Some(found) = texts(rt, paths, most)? else {
         return Ok(Outcome::Unreadable);
     };
-    list(rt, &sources(alloc, &found)?)
+    list(rt, is_normal, &sources(alloc, &found)?)
 }

@@ -1,9 +1,12 @@
 //! A call of the program.
 
+use crate::encoding::answer_encode;
 use crate::files::{Document, FileError, documents, read, told};
 use crate::modules::answer_types;
 use crate::typed::answer_typed;
-use crate::words::{Call, Task, asked, asked_by_type, command, modules, most};
+use crate::words::{
+    Call, Task, asked, asked_by_type, asked_to_encode, command, is_normal, modules, most,
+};
 use asn1_engine::outcome::{FAILED, Outcome};
 use asn1_engine::plain::seems_text;
 use asn1_engine::{Finding, RunError, check, check_all, dump, dump_at};
@@ -115,7 +118,13 @@ fn run<R: Files + Env + Input + Print + Eprint + AllocGlobal>(
         return Ok(FAILED);
     };
     if name == "types" {
-        return Ok(answer_types(rt, modules(inner), most(inner))?.status());
+        return Ok(answer_types(rt, is_normal(inner), modules(inner), most(inner))?.status());
+    }
+    if name == "encode" {
+        return match asked_to_encode(inner) {
+            Some(call) => Ok(answer_encode(rt, &call)?.status()),
+            None => Ok(FAILED),
+        };
     }
     let Some(paths) = inner.get_strs("file") else {
         return Ok(FAILED);

@@ -19,7 +19,7 @@ use std::rt::Files;
 use std::{io, str};
 
 /// Prints lines on standard error.
-fn tell<R: Eprint>(rt: &R, lines: &[u8]) {
+pub fn tell<R: Eprint>(rt: &R, lines: &[u8]) {
     if let Ok(text) = str::from_utf8(lines) {
         let _ = eprint!(rt; "{text}");
     }

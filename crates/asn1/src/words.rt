@@ -60,6 +60,23 @@ pub struct TypedCall<'m> {
     pub most: u64,
 }
 
+/// What is asked of a file of JSON.
+#[derive(Debug, Clone, Copy)]
+pub struct EncodeCall<'m> {
+    /// The files of modules; without one, those that are built in.
+    pub modules: &'m [&'m str],
+    /// The name of the type.
+    pub name: &'m str,
+    /// The file of JSON.
+    pub file: &'m str,
+    /// The file that octets are written to; without it, standard output.
+    pub output: Option<&'m str>,
+    /// The label of the block of PEM that they are written as, if they are.
+    pub label: Option<&'m str>,
+    /// As many octets of a file are read at most.
+    pub most: u64,
+}
+
 /// An option with a number.
 fn number<'a>(alloc: Global, id: &'a str, value: &'a str, help: &'a str) -> Arg<'a> {
     Arg::new(alloc, id)
@@ -207,6 +224,48 @@ fn decode_command<'a>(alloc: Global) -> Result<Command<'a>, AllocError> {
     with_files(alloc, command)
 }
 
+/// An option with a word.
+fn word<'a>(alloc: Global, id: &'a str, value: &'a str, help: &'a str) -> Arg<'a> {
+    Arg::new(alloc, id)
+        .long(id)
+        .value_name(value)
+        .help(help)
+        .action(ArgAction::Set)
+}
+
+/// The words of `encode`.
+fn encode_command<'a>(alloc: Global) -> Result<Command<'a>, AllocError> {
+    let name = type_name(alloc, "The type, as Certificate or PKCS-1.RSAPrivateKey");
+    let output = word(
+        alloc,
+        "output",
+        "FILE",
+        "The file that is written; without it, standard output",
+    );
+    let label = word(
+        alloc,
+        "pem",
+        "LABEL",
+        "Writes a block of PEM with this label, as CERTIFICATE",
+    );
+    let file = Arg::new(alloc, "file")
+        .value_name("FILE")
+        .help("A file of JSON, as decode prints it, or - for standard input")
+        .required(true)
+        .action(ArgAction::Set);
+    Command::new(alloc, "encode")
+        .about("Writes the value of a file of JSON by DER, by a type of ASN.1 modules")
+        .after_help(
+            "Example: asn1 encode --type Certificate --pem CERTIFICATE -o new.pem value.json",
+        )
+        .arg(module_files(alloc))?
+        .arg(name.required(true))?
+        .arg(output.short('o'))?
+        .arg(label)?
+        .arg(most_octets(alloc))?
+        .arg(file)
+}
+
 /// The words of `types`.
 fn types_command<'a>(alloc: Global) -> Result<Command<'a>, AllocError> {
     Command::new(alloc, "types")
@@ -214,6 +273,11 @@ fn types_command<'a>(alloc: Global) -> Result<Command<'a>, AllocError> {
             "Prints the types of modules, a line each, what is left out, and whether they are sound",
         )
         .after_help("Example: asn1 types --module names.asn1 --module certificates.asn1")
+        .arg(flag(
+            alloc,
+            "normal",
+            "Prints the modules in their normal form instead",
+        ))?
         .arg(module_files(alloc))?
         .arg(most_octets(alloc))
 }
@@ -231,6 +295,7 @@ pub fn command<'a>(alloc: Global) -> Result<Command<'a>, AllocError> {
         .subcommand(dump_command(alloc)?)?
         .subcommand(check_command(alloc)?)?
         .subcommand(decode_command(alloc)?)?
+        .subcommand(encode_command(alloc)?)?
         .subcommand(types_command(alloc)?)
 }
 
@@ -243,6 +308,11 @@ fn given(matches: &ArgMatches<'_>, id: &str) -> Option<usize> {
 /// As many octets of a file are read at most.
 pub fn most(matches: &ArgMatches<'_>) -> u64 {
     matches.get_one::<u64>("max-octets").unwrap_or(MOST_OCTETS)
+}
+
+/// Whether modules are printed in their normal form.
+pub fn is_normal(matches: &ArgMatches<'_>) -> bool {
+    matches.get_flag("normal")
 }
 
 /// The files of modules that a call names.
@@ -302,6 +372,18 @@ pub fn asked_by_type<'m>(
         return None;
     }
     Some(call)
+}
+
+/// What the words of `encode` ask for.
+pub fn asked_to_encode<'m>(matches: &'m ArgMatches<'_>) -> Option<EncodeCall<'m>> {
+    Some(EncodeCall {
+        modules: modules(matches),
+        name: matches.get_str("type")?,
+        file: matches.get_str("file")?,
+        output: matches.get_str("output"),
+        label: matches.get_str("pem"),
+        most: most(matches),
+    })
 }
 
 /// What the words ask for.

@@ -7,7 +7,7 @@ use Rattle.std.proofs.lemmas.Bool.{and_parts, ltb-true, lt-ltb}
 use Rattle.std.proofs.lemmas.Int.Digits.{all_below_base_digits_of}
 use Rattle.hex.specs.Hex.{encode_lower, encode_with, lower_digits}
 use Rattle.json.proofs.Printed.Utf8.{are_ascii}
-use Rattle.asn1_words.specs.Words.{number_text, integer_text, left_out_text, cut_text}
+use Rattle.asn1_words.specs.Words.{number_text, integer_text, left_out_text, truncated_text}
 use Rattle.asn1_words.specs.Numbers.{arcs_text, more_arcs_text}
 
 abbrev pub IsAsciiText : List ℕ → Type 0
@@ -47,8 +47,8 @@ pub left_out_is_ascii : (count : ℕ) → IsAsciiText (left_out_text count)
 left_out_is_ascii count =
     both (codes ".. (" ++ number_text count) (codes " octets)") (both (codes ".. (") (number_text count) refl (number_is_ascii count)) refl
 
-pub cut_is_ascii : (width count : ℕ) (text : List ℕ) → IsAsciiText text → IsAsciiText (cut_text width count text)
-cut_is_ascii width count text h = either (nat_lt width (length text)) (take width text ++ left_out_text count) text
+pub truncated_is_ascii : (width count : ℕ) (text : List ℕ) → IsAsciiText text → IsAsciiText (truncated_text width count text)
+truncated_is_ascii width count text h = either (nat_lt width (length text)) (take width text ++ left_out_text count) text
     (both (take width text) (left_out_text count) (front width text h) (left_out_is_ascii count)) h
 
 more_arcs_are_ascii : (arcs : List ℕ) → IsAsciiText (more_arcs_text arcs)

@@ -15,7 +15,7 @@ use Rattle.asn1_walk.specs.declared.line.Line.{Line}
 use Rattle.x690.specs.Digits.{twos_complement_value}
 use Rattle.asn1_engine.specs.declared.texts.Coding.{Coding}
 use Rattle.asn1_engine.specs.declared.texts.Coding.TheVariants.{Utf8, Ascii, Utf16, Ucs4}
-use Rattle.asn1_words.specs.Words.{number_text, integer_text, left_out_text, cut_text}
+use Rattle.asn1_words.specs.Words.{number_text, integer_text, left_out_text, truncated_text}
 use Rattle.asn1_words.specs.Numbers.{arcs, arcs_text, are_shown}
 use Rattle.asn1_engine.specs.Visible.{is_shown_as_it_is}
 use Rattle.asn1_engine.specs.Texts.{Begins, ShowsFirst, Shows, IsQuoted, character_text, end_text, escape_text, is_marked_character}
@@ -24,7 +24,7 @@ use Rattle.asn1_engine.specs.Values.{identifier_text}
 use Rattle.asn1_engine.specs.Lines.{Sort, of_truth, of_number, of_bits, of_null, of_identifier, of_string, of_octets}
 use Rattle.asn1_engine.specs.Lines.{IsContentText, IsShownName, IsValueText, sort_of}
 use Rattle.asn1_engine.proofs.Utf8Texts.{IsAsciiText, both, either, number_is_ascii, integer_is_ascii, left_out_is_ascii}
-use Rattle.asn1_engine.proofs.Utf8Texts.{cut_is_ascii, arcs_are_ascii, hexadecimal_is_ascii, radix_digits_are_ascii}
+use Rattle.asn1_engine.proofs.Utf8Texts.{truncated_is_ascii, arcs_are_ascii, hexadecimal_is_ascii, radix_digits_are_ascii}
 
 octets_are_ascii : (width : ℕ) (octets : List ℕ) → IsAsciiText (octets_text width octets)
 octets_are_ascii width [] = refl
@@ -107,8 +107,8 @@ identifier_is_ascii : (width : ℕ) (relative : Bool) (name : Option (List ℕ))
 identifier_is_ascii width relative name content true e h =
     let text : List ℕ = arcs_text (arcs relative content) in
     both (shown_arcs_text width relative content) (name_text name)
-    (either (nat_le (length content) 40) text (cut_text width (length content) text) (arcs_are_ascii (arcs relative content))
-    (cut_is_ascii width (length content) text (arcs_are_ascii (arcs relative content))))
+    (either (nat_le (length content) 40) text (truncated_text width (length content) text) (arcs_are_ascii (arcs relative content))
+    (truncated_is_ascii width (length content) text (arcs_are_ascii (arcs relative content))))
     (shown_name_is_ascii relative content name (h e))
 identifier_is_ascii width relative name content false e h = octets_are_ascii width content
 

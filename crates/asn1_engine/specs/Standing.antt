@@ -20,7 +20,7 @@ spaced_text (octet ∷ octets) = encode_lower (octet ∷ []) ++ more_octets_text
 
 -- a mark where there are more octets
 abbrev pub mark_text : Bool → List ℕ
-mark_text is_cut = if is_cut then codes " .." else []
+mark_text is_truncated = if is_truncated then codes " .." else []
 
 -- 24 octets at most, and the mark
 abbrev pub standing_text : List ℕ → List ℕ

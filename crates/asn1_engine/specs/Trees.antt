@@ -4,11 +4,15 @@ use Rattle.std.specs.Prelude.{drop, codes, nat_lt}
 use Rattle.asn1_headers.specs.declared.error.Error.{Error}
 use Rattle.asn1_headers.specs.declared.error.Error.TheVariants.{InvalidTag, InvalidLength, ConstructExpected}
 use Rattle.asn1_headers.specs.declared.error.Err.{Err as Refusal}
-use Rattle.asn1_headers.specs.declared.error.Err.TheVariants.{Incomplete as cut, Error as refused_by}
+use Rattle.asn1_headers.specs.declared.error.Err.TheVariants.{Incomplete as truncated, Error as refused_by}
 use Rattle.asn1_headers.specs.Texts.{needed_text}
 use Rattle.asn1_headers.specs.Header.Reading.{ber_refusal}
 use Rattle.asn1_walk.specs.declared.line.Line.{Line}
+use Rattle.asn1_walk.specs.declared.state.Walk.{Walk}
+use Rattle.asn1_walk.specs.declared.walk.Step.{Step}
+use Rattle.asn1_walk.specs.declared.walk.Step.TheVariants.{Line as an_element, Closed, End, Refused}
 use Rattle.asn1_walk.specs.Rows.{Row, Outcome, ended, refused}
+use Rattle.asn1_walk.specs.Walks.{Finds}
 use Rattle.asn1_engine.specs.declared.trees.Options.{Options}
 use Rattle.asn1_words.specs.Words.{right, number_text}
 use Rattle.asn1_engine.specs.Findings.{IsFirst, HasNoFirst}
@@ -38,7 +42,7 @@ Writes options line is_entered text =
 
 -- why no element begins, in words
 abbrev pub refusal_text : Refusal Error → List ℕ
-refusal_text (cut needed) = needed_text needed
+refusal_text (truncated needed) = needed_text needed
 refusal_text (refused_by InvalidTag) = codes "the identifier octets do not end, or the tag number is 2^32 or more"
 refusal_text (refused_by InvalidLength) = codes "the first length octet is ff, or the length is 2^64 or more"
 refusal_text (refused_by ConstructExpected) = codes "a primitive element has the indefinite length"
@@ -101,3 +105,20 @@ IsTreeAt options offset octets text =
     ((drop offset octets ≡ []) × IsRefusalLine options.json offset (codes "the octets end before") text) ⊎
     ((word : List ℕ) × IsFirst (drop offset octets) word × IsTree options 16 offset 0 word text) ⊎
     (HasNoFirst (drop offset octets) × IsTree options 16 offset 0 (drop offset octets) text)
+
+-- what a walk over octets finds first
+abbrev pub FindsFirst : List ℕ → Step → Type 0
+FindsFirst octets found = (walk next : Walk) × (walk.view.now ≡ octets) × (walk.offset ≡ 0) ×
+    (walk.frames.items ≡ []) × Finds found walk next
+
+-- the line of what was found, in octets that stand at an offset and within so many elements; nothing if it is no element
+abbrev pub IsFoundText : ℕ → ℕ → ℕ → Step → List ℕ → Type 0
+IsFoundText width offset depth (an_element line) text = IsLineText width (placed offset depth line) false text
+IsFoundText width offset depth Closed text = text ≡ []
+IsFoundText width offset depth End text = text ≡ []
+IsFoundText width offset depth (Refused r) text = text ≡ []
+
+-- the line of the element that begins octets, which stand at an offset; nothing where none does
+abbrev pub IsFirstLine : ℕ → ℕ → List ℕ → List ℕ → Type 0
+IsFirstLine width offset octets text =
+    (found : Step) × FindsFirst octets found × IsFoundText width offset 0 found text

@@ -22,5 +22,5 @@ pub mod verdicts;
 mod wording;
 
 pub use error::{Finding, RunError};
-pub use trees::{Options, dump, dump_at};
+pub use trees::{Options, dump, dump_at, push_first_line};
 pub use verdicts::{check, check_all};

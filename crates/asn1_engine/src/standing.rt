@@ -67,10 +67,10 @@ fn shown_front(word: &[u8]) -> &[u8]
 }
 
 /// Appends that there are more octets.
-fn push_mark(text: &mut Vec<u8>, is_cut: bool) -> Result<(), AllocError>
-    ensures { OnOk result (text.new.items ≡ text.old.items ++ mark_text is_cut) }
+fn push_mark(text: &mut Vec<u8>, is_truncated: bool) -> Result<(), AllocError>
+    ensures { OnOk result (text.new.items ≡ text.old.items ++ mark_text is_truncated) }
 {
-    if is_cut {
+    if is_truncated {
         return push_str(text, " ..");
     }
     Ok(())

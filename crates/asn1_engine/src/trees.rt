@@ -8,7 +8,7 @@ ghost use Rattle.asn1_engine.specs.Lines.{IsLineText};
 ghost use Rattle.asn1_engine.specs.Trees.{IsRefusalLine, IsShown, IsTree, IsTreeAt, Writes, inner_depth};
 ghost use Rattle.asn1_engine.specs.Inner.{IsHeld, HoldsElements, IsNotEntered};
 ghost use Rattle.asn1_engine.specs.Trees.{inner_offset};
-ghost use Rattle.asn1_engine.specs.Trees.{placed, refusal_text};
+ghost use Rattle.asn1_engine.specs.Trees.{IsFirstLine, IsFoundText, placed, refusal_text};
 
 use crate::departures::Refusal;
 use crate::error::{Finding, RunError};
@@ -238,6 +238,52 @@ fn write_element<W: Write>(
         }
         None => write_line(alloc, &line, false, options, text, out)?,
     }
+    Ok(())
+}
+
+/// Appends the line of what a walk over octets found first, if it is an element.
+fn push_found(
+    alloc: Global,
+    text: &mut Vec<u8>,
+    part: Part<'_>,
+    found: &Step<'_>,
+    width: usize,
+) -> Result<(), AllocError>
+    ensures { OnOk result ((shown : List ℕ) × IsFoundText width part.entry.offset part.entry.depth found.now shown ×
+        (text.new.items ≡ text.old.items ++ shown)) }
+{
+    match found {
+        Step::Line(line) => {
+            let mut shown = Vec::new(alloc);
+            push_line(alloc, &part.placed(*line), false, width, &mut shown)?;
+            text.extend_from_slice(shown.as_slice())?;
+            Ok(())
+        }
+        Step::Closed => Ok(()),
+        Step::End => Ok(()),
+        Step::Refused(_) => Ok(()),
+    }
+}
+
+/// Appends the line of the element that begins octets, which stand at an offset; nothing where none begins them.
+pub fn push_first_line(
+    alloc: Global,
+    text: &mut Vec<u8>,
+    octets: &[u8],
+    offset: usize,
+    width: usize,
+) -> Result<(), AllocError>
+    ensures { OnOk result ((shown : List ℕ) × IsFirstLine width offset octets.now shown ×
+        (text.new.items ≡ text.old.items ++ shown)) }
+{
+    let part = Part {
+        octets,
+        offset,
+        depth: 0,
+    };
+    let mut walk = Walk::new(alloc, octets);
+    let found = walk.step()?;
+    push_found(alloc, text, part, &found, width)?;
     Ok(())
 }
 

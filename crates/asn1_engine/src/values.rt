@@ -11,7 +11,7 @@ use asn1_names::name_of;
 use asn1_walk::Line;
 use asn1_words::decimals::push_integer;
 use asn1_words::identifiers::{have_arcs, push_arcs};
-use asn1_words::words::{cut_behind, push_hexadecimal, push_left_out, push_long, push_str};
+use asn1_words::words::{push_hexadecimal, push_left_out, push_long, push_str, truncated_behind};
 use std::alloc::{AllocError, Global};
 
 /// As many octets of an integer are shown in decimals; more are shown in hexadecimal.
@@ -112,7 +112,7 @@ fn push_shown_arcs(
     if content.len() <= MOST_WHOLE {
         return Ok(());
     }
-    cut_behind(text, start, width, content.len())
+    truncated_behind(text, start, width, content.len())
 }
 
 /// OBJECT IDENTIFIER and RELATIVE-OID: the arcs, and the name of a common identifier.

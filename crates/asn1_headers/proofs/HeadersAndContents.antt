@@ -8,7 +8,7 @@ use Rattle.x690.specs.Identifiers.{Identifier}
 use Rattle.x690.specs.Lengths.{definite, LengthForm}
 use Rattle.x690.specs.Rules.{Rule, der_rule, ber_rule}
 use Rattle.x690.specs.Elements.{IsHeader, Parts, IsDerElement}
-use Rattle.x690.specs.Faults.{missing, IsCutContent, DerElementFault}
+use Rattle.x690.specs.Faults.{missing, IsTruncatedContent, DerElementFault}
 use Rattle.x690.specs.Nested.{IsNestedElement}
 use Rattle.x690.specs.Nested.Contents.{IsContent, ContentFault}
 use Rattle.x690.specs.Nested.FaultHeaders.{ContentFaultHeaders}
@@ -29,9 +29,9 @@ use Rattle.asn1_headers.specs.Length.{form_of}
 use Rattle.asn1_headers.specs.Der.{DerContentGives}
 
 -- the header counts octets of which some are missing
-pub content_cut : (input rest : List ℕ) (h : Header) (n lacking : ℕ) → BeginsInput der_rule input rest h →
-    h.length ≡ Definite n → 1 ≤ lacking → length rest + lacking ≡ n → IsCutContent der_rule input (missing lacking)
-content_cut input rest h n lacking b f some sum = record {
+pub content_truncated : (input rest : List ℕ) (h : Header) (n lacking : ℕ) → BeginsInput der_rule input rest h →
+    h.length ≡ Definite n → 1 ≤ lacking → length rest + lacking ≡ n → IsTruncatedContent der_rule input (missing lacking)
+content_truncated input rest h n lacking b f some sum = record {
   header = b.octets;
   rest = rest;
   id = identifier_of h;
@@ -77,7 +77,7 @@ pub der_content_refused : (input after : List ℕ) (h : Header) (l : Length) (r 
     BeginsInput der_rule input after h → h.length ≡ l → DerContentGives (form_of l) after (Err r) →
     Refused DerElementFault der_refusal input r
 der_content_refused input after h (Definite n) r b f s =
-    (missing s.0, inr (content_cut input after h n s.0 b f s.1 s.2), s.3)
+    (missing s.0, inr (content_truncated input after h n s.0 b f s.1 s.2), s.3)
 der_content_refused input after h Indefinite r b f s =
     let a = subst (λ (z : Length). IsHeader der_rule b.octets (identifier_of h) (form_of z)) f b.header in
     let none : false ≡ true = a.count_allowed in

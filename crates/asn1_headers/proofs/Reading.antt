@@ -6,7 +6,7 @@ use Rattle.x690.specs.Laws.Octets.{octets_front}
 use Rattle.x690.specs.Identifiers.{Identifier, IsIdentifier}
 use Rattle.x690.specs.Lengths.{LengthForm, IsLengthForm}
 use Rattle.x690.specs.Rules.{Rule, ber_rule, allows_form}
-use Rattle.x690.specs.Faults.{Breach, breach_of, Fault, missing, rule_fault, LengthFault, FaultFrom, HeaderFault}
+use Rattle.x690.specs.Faults.{Violation, violation_of, Fault, missing, rule_fault, LengthFault, FaultFrom, HeaderFault}
 use Rattle.x690.specs.Laws.Identifiers.{same_identifier}
 use Rattle.asn1_headers.specs.declared.header.Header.{Header}
 use Rattle.asn1_headers.specs.declared.header.reading.IdentifierOctets.{IdentifierOctets}
@@ -31,10 +31,10 @@ no_length [] h = refl
 no_length (x ∷ octets) h = absurd (omega arith)
 
 -- some of the length octets that the first one announces are missing
-pub cut_length : (octets rest : List ℕ) (count lacking : ℕ) → octets ≡ get_or octets 0 0 ∷ rest →
+pub truncated_length : (octets rest : List ℕ) (count lacking : ℕ) → octets ≡ get_or octets 0 0 ∷ rest →
     get_or octets 0 0 ≡ 128 + count → count ≤ 126 → 1 ≤ lacking → length rest + lacking ≡ count →
     LengthFault octets (missing lacking)
-cut_length octets rest count lacking e f few some sum =
+truncated_length octets rest count lacking e f few some sum =
     subst (λ (z : List ℕ). LengthFault z (missing lacking)) (sym e) (count, f, few, some, sum)
 
 pub long_octets : (octets front back : List ℕ) (first : ℕ) → IsOctets octets → octets ≡ first ∷ (front ++ back) →
@@ -82,13 +82,13 @@ module _ (rule : Rule) (input after : List ℕ) (x : IdentifierOctets) (b : Begi
   })
 
   -- length octets, or 80, that the rule does not allow behind the identifier octets
-  pub form_refused : (refuses : Breach → Error) (rest : List ℕ) (length : Length) (form : LengthForm) →
+  pub form_refused : (refuses : Violation → Error) (rest : List ℕ) (length : Length) (form : LengthForm) →
       (l : BeginsWithLength after rest length) → form_of length ≡ form →
       rule.allows_identifier x.octets.now ≡ true → allows_form rule (id_read x) l.0 form ≡ false →
-      Refused (HeaderFault rule) (refusal_of refuses) input (refused (refuses (breach_of form)))
+      Refused (HeaderFault rule) (refusal_of refuses) input (refused (refuses (violation_of form)))
   form_refused refuses rest length form l e allowed not_allowed = (
-    rule_fault (breach_of form),
-    fault_behind (rule_fault (breach_of form)) (inr (
+    rule_fault (violation_of form),
+    fault_behind (rule_fault (violation_of form)) (inr (
       allowed,
       inr (record {
         count = l.0;

@@ -2,9 +2,9 @@
 use Rattle.std.specs.Prelude.{ℕ, Bool, IsTrue, List, [], ◌++◌, ◌≡◌, ◌≢◌, ◌<◌, ◌⊎◌, length, Result, Ok, Err, ◌≤◌}
 use Rattle.std.specs.Prelude.{IsErrAnd}
 use Rattle.std.specs.Borrow.{Bor}
-use Rattle.x690.specs.Joined.{NoFront}
+use Rattle.x690.specs.Joined.{NoPrefix}
 use Rattle.asn1_headers.specs.declared.error.Err.{Err as Refusal}
-use Rattle.asn1_headers.specs.declared.error.Err.TheVariants.{Incomplete as cut, Error as refused, Failure as failed}
+use Rattle.asn1_headers.specs.declared.error.Err.TheVariants.{Incomplete as truncated, Error as refused, Failure as failed}
 use Rattle.asn1_headers.specs.declared.error.Needed.TheVariants.{Size, Unknown}
 use Rattle.asn1_headers.specs.declared.error.Error.{Error}
 use Rattle.asn1_headers.specs.declared.error.Error.TheVariants.{OutOfMemory, InvalidTag}
@@ -23,14 +23,14 @@ pub record Front {V : Type 0} (G : List ℕ → V → Type 0) (input : List ℕ)
 -- What a refusal says of the input with more octets behind it. Where n are missing it says nothing of n or more; where
 -- the input ends within an identifier it says nothing of any.
 abbrev pub Speaks : {E : Type 0} → Type 0 → Refusal E → List ℕ → Type 0
-Speaks is_cut (cut (Size n)) more = (more ≡ []) ⊎ (length more < n)
-Speaks is_cut (cut Unknown) more = more ≡ []
-Speaks is_cut (refused x) more = (more ≡ []) ⊎ (is_cut → ⊥)
-Speaks is_cut (failed x) more = (more ≡ []) ⊎ (is_cut → ⊥)
+Speaks is_truncated (truncated (Size n)) more = (more ≡ []) ⊎ (length more < n)
+Speaks is_truncated (truncated Unknown) more = more ≡ []
+Speaks is_truncated (refused x) more = (more ≡ []) ⊎ (is_truncated → ⊥)
+Speaks is_truncated (failed x) more = (more ≡ []) ⊎ (is_truncated → ⊥)
 
 -- The refusal is final: no word begins the input, whatever follows of which the refusal speaks.
 abbrev pub IsFinal : {V E : Type 0} → Type 0 → Refusal E → (List ℕ → V → Type 0) → List ℕ → Type 0
-IsFinal is_cut r G input = (more : List ℕ) → Speaks is_cut r more → NoFront G (input ++ more)
+IsFinal is_truncated r G input = (more : List ℕ) → Speaks is_truncated r more → NoPrefix G (input ++ more)
 
 -- the refusal may report out of memory, where the reader allocates
 abbrev pub TellsMemory : {E : Type 0} → Bool → (Error → E → Type 0) → Refusal E → Type 0
@@ -44,8 +44,8 @@ IsOther {E} gives e = ((f : Error) × (f ≢ OutOfMemory) × gives f e) ⊎ (giv
 -- allocates, out of memory may be reported.
 abbrev pub Exactly : {T V E : Type 0} → (List ℕ → Type 0) → (List ℕ → V → Type 0) → (T → V) → (Refusal E → Type 0) →
     List ℕ → Result (List ℕ × T) (Refusal E) → Type 0
-Exactly IsCut G value memory input (Ok x) = Front G input (value x.1) x.0
-Exactly IsCut G value memory input (Err r) = memory r ⊎ IsFinal (IsCut input) r G input
+Exactly IsTruncated G value memory input (Ok x) = Front G input (value x.1) x.0
+Exactly IsTruncated G value memory input (Err r) = memory r ⊎ IsFinal (IsTruncated input) r G input
 
 -- the answer is this value before this rest, except when out of memory
 abbrev pub ReadsBack : {T V E : Type 0} → (T → V) → (Refusal E → Type 0) → V → List ℕ →
@@ -57,7 +57,7 @@ ReadsBack value memory v rest (Err r) = memory r
 -- within an identifier
 abbrev pub TellsBeginning : Type 0 → Refusal Error → List ℕ → Type 0
 TellsBeginning ends_within r more =
-    ((n : ℕ) × (r ≡ cut (Size n)) × (n ≤ length more)) ⊎ ((r ≡ refused InvalidTag) × ends_within)
+    ((n : ℕ) × (r ≡ truncated (Size n)) × (n ≤ length more)) ⊎ ((r ≡ refused InvalidTag) × ends_within)
 
 -- The answer is an `Err` that tells of octets that more of them make whole.
 abbrev pub RefusedAsBeginning : {A : Type 0} → Type 0 → List ℕ → Result A (Refusal Error) → Type 0
@@ -65,4 +65,4 @@ RefusedAsBeginning ends_within more answer = IsErrAnd answer (λ r. TellsBeginni
 
 -- The answer is an `Err`, out of memory, or one that does not speak of these octets.
 abbrev pub RefusedBeforeEnd : {A E : Type 0} → (Refusal E → Type 0) → Type 0 → List ℕ → Result A (Refusal E) → Type 0
-RefusedBeforeEnd memory is_cut more answer = IsErrAnd answer (λ r. memory r ⊎ (Speaks is_cut r more → ⊥))
+RefusedBeforeEnd memory is_truncated more answer = IsErrAnd answer (λ r. memory r ⊎ (Speaks is_truncated r more → ⊥))

@@ -3,13 +3,13 @@ use Rattle.std.specs.Prelude.{◌≡◌, ◌+◌, ◌≤◌, ℕ, List, ◌++◌
 use Rattle.std.specs.Borrow.{Bor}
 use Rattle.asn1_headers.specs.declared.error.Error.{Error}
 use Rattle.asn1_headers.specs.declared.error.Err.{Err as Refusal}
-use Rattle.asn1_headers.specs.declared.error.Err.TheVariants.{Incomplete as cut}
+use Rattle.asn1_headers.specs.declared.error.Err.TheVariants.{Incomplete as truncated}
 use Rattle.asn1_headers.specs.declared.error.Needed.TheVariants.{Size}
 
 -- so many octets of the input, and the rest, or how many are missing
 abbrev pub Splits : ℕ → List ℕ → Result (Bor (List ℕ) × Bor (List ℕ)) (Refusal Error) → Type 0
 Splits n input (Ok x) = (length x.1.now ≡ n) × (input ≡ x.1.now ++ x.0.now)
-Splits n input (Err r) = (lacking : ℕ) × (1 ≤ lacking) × (length input + lacking ≡ n) × (r ≡ cut (Size lacking))
+Splits n input (Err r) = (lacking : ℕ) × (1 ≤ lacking) × (length input + lacking ≡ n) × (r ≡ truncated (Size lacking))
 
 -- with more octets behind them the contents octets are answered too, and the rest with these
 abbrev pub ContentStays : Bor (List ℕ) × Bor (List ℕ) → List ℕ →

@@ -3,7 +3,7 @@ use Rattle.std.specs.Prelude.{◌≡◌, ℕ, List, if◌then◌else◌, nat_eq,
 use Rattle.asn1_headers.specs.Message.{message_text}
 use Rattle.asn1_headers.specs.declared.tag.Tag.{Tag}
 use Rattle.asn1_headers.specs.declared.error.Err.{Err as Refusal}
-use Rattle.asn1_headers.specs.declared.error.Err.TheVariants.{Incomplete as cut, Error as refused, Failure as failed}
+use Rattle.asn1_headers.specs.declared.error.Err.TheVariants.{Incomplete as truncated, Error as refused, Failure as failed}
 use Rattle.asn1_headers.specs.declared.error.Needed.{Needed}
 use Rattle.asn1_headers.specs.declared.error.Needed.TheVariants.{Unknown, Size}
 use Rattle.asn1_headers.specs.declared.error.Error.{Error}
@@ -17,21 +17,21 @@ needed_of n = if nat_eq n 0 then Unknown else Size n
 
 -- the same variant, with its error changed as the relation says
 abbrev pub Converted : {E F : Type 0} → (E → F → Type 0) → Refusal E → Refusal F → Type 0
-Converted gives (cut n) r = r ≡ cut n
+Converted gives (truncated n) r = r ≡ truncated n
 Converted {E} {F} gives (refused e) r = (f : F) × gives e f × (r ≡ refused f)
 Converted {E} {F} gives (failed e) r = (f : F) × gives e f × (r ≡ failed f)
 
 -- the fact holds of the error that is held, where one is
 abbrev pub HeldIn : {E : Type 0} → (E → Type 0) → Refusal E → Type 0
-HeldIn P (cut n) = Unit {0}
+HeldIn P (truncated n) = Unit {0}
 HeldIn P (refused e) = P e
 HeldIn P (failed e) = P e
 
 -- octets are missing
-abbrev pub IsCut : {E : Type 0} → Refusal E → Type 0
-IsCut (cut n) = Unit {0}
-IsCut (refused e) = ⊥
-IsCut (failed e) = ⊥
+abbrev pub IsTruncated : {E : Type 0} → Refusal E → Type 0
+IsTruncated (truncated n) = Unit {0}
+IsTruncated (refused e) = ⊥
+IsTruncated (failed e) = ⊥
 
 -- the refusal `InvalidValue` of this tag, with a text of which the fact holds
 abbrev pub IsInvalidValueOf : Tag → (List ℕ → Type 0) → Error → Type 0
@@ -44,7 +44,7 @@ IsInvalidValue tag text = IsInvalidValueOf tag (λ kept. kept ≡ text)
 
 -- the error that is held, or that octets are missing
 abbrev pub FlattenedTo : {E F : Type 0} → (E → F → Type 0) → (Error → F → Type 0) → Refusal E → F → Type 0
-FlattenedTo held missing (cut n) f = missing (errors.Incomplete n) f
+FlattenedTo held missing (truncated n) f = missing (errors.Incomplete n) f
 FlattenedTo held missing (refused e) f = held e f
 FlattenedTo held missing (failed e) f = held e f
 

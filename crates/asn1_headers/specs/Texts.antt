@@ -4,7 +4,7 @@ use Rattle.std.specs.Fmt.{◌++?◌}
 use Rattle.asn1_headers.specs.declared.class.Class.{Class}
 use Rattle.asn1_headers.specs.declared.class.Class.TheVariants.{Universal, Application, ContextSpecific, Private}
 use Rattle.asn1_headers.specs.declared.error.Err.{Err as Refusal}
-use Rattle.asn1_headers.specs.declared.error.Err.TheVariants.{Incomplete as cut, Error as refused, Failure as failed}
+use Rattle.asn1_headers.specs.declared.error.Err.TheVariants.{Incomplete as truncated, Error as refused, Failure as failed}
 use Rattle.asn1_headers.specs.declared.error.Needed.{Needed}
 use Rattle.asn1_headers.specs.declared.error.Needed.TheVariants.{Unknown, Size}
 
@@ -22,7 +22,7 @@ needed_text (Size n) = if nat_eq n 1 then codes "1 octet is missing" else decima
 
 -- what is missing, or the text of the error that is held
 abbrev pub refusal_text : {E : Type 0} → (E → Option (List ℕ)) → Refusal E → Option (List ℕ)
-refusal_text text (cut n) = Some (needed_text n)
+refusal_text text (truncated n) = Some (needed_text n)
 refusal_text text (refused e) = text e
 refusal_text text (failed e) = text e
 

@@ -1,6 +1,6 @@
 //! Why a reading or a writing is refused.
 ghost use Rattle.std.specs.Prelude.{◌≡◌, ◌↔◌, IsTrue, ℕ, Bool, true, false};
-ghost use Rattle.asn1_headers.specs.Error.{Converted, HeldIn, FlattenedTo, IsCut, needed_of, tells_of_io};
+ghost use Rattle.asn1_headers.specs.Error.{Converted, HeldIn, FlattenedTo, IsTruncated, needed_of, tells_of_io};
 ghost use Rattle.asn1_headers.specs.Error.{written_refusal, vector_refusal};
 ghost use Rattle.asn1_headers.specs.declared.error.Err.TheVariants.{Error as refused};
 ghost use Rattle.asn1_headers.specs.declared.error.Error.TheVariants as errors;
@@ -89,7 +89,7 @@ impl<E> Err<E> {
 
     /// Whether octets are missing.
     pub fn is_incomplete(&self) -> bool
-        ensures { IsTrue result ↔ IsCut self.now }
+        ensures { IsTrue result ↔ IsTruncated self.now }
     {
         matches!(self, Err::Incomplete(_))
     }

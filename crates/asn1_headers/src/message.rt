@@ -68,7 +68,7 @@ impl Message {
     /// memory.
     pub fn short(text: &str) -> Message
         ensures whole { length text.now ≤ Message.CAPACITY → message_text result ≡ text.now }
-        ensures cut { Message.CAPACITY < length text.now →
+        ensures truncated { Message.CAPACITY < length text.now →
             IsLongestBeginning Message.CAPACITY text.now (message_text result) }
     {
         let kept = text.floor_char_boundary(Message::CAPACITY);

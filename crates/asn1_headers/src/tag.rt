@@ -121,7 +121,7 @@ impl Tag {
     pub fn invalid_value(&self, msg: &str) -> Error
         ensures whole { length msg.now ≤ Message.CAPACITY →
             IsInvalidValue self.now msg.now result }
-        ensures cut { Message.CAPACITY < length msg.now → IsInvalidValueOf self.now
+        ensures truncated { Message.CAPACITY < length msg.now → IsInvalidValueOf self.now
             (IsLongestBeginning Message.CAPACITY msg.now) result }
     {
         Error::invalid_value(*self, Message::short(msg))

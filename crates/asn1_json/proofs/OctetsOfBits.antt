@@ -48,11 +48,11 @@ octet_more bs some =
 pub octets_step : (items pushed whole : List ℕ) (rest others : List Bool) (octet : ℕ) → 0 < length rest →
     octet ≡ number_of_bits 8 rest → pushed ≡ items ++ octet ∷ [] → others ≡ drop 8 rest →
     items ++ octets_of_bits rest ≡ whole → pushed ++ octets_of_bits others ≡ whole
-octets_step items pushed whole rest others octet some is put cut e =
+octets_step items pushed whole rest others octet some is put truncated e =
     ap (λ (os : List ℕ). os ++ octets_of_bits others) put
     ∙ append_assoc items (octet ∷ []) (octets_of_bits others)
     ∙ ap (λ (o : ℕ). items ++ o ∷ octets_of_bits others) is
-    ∙ ap (λ (bs : List Bool). items ++ number_of_bits 8 rest ∷ octets_of_bits bs) cut
+    ∙ ap (λ (bs : List Bool). items ++ number_of_bits 8 rest ∷ octets_of_bits bs) truncated
     ∙ ap (λ (os : List ℕ). items ++ os) (sym (octet_more rest some)) ∙ e
 
 -- what is behind the bits that were there

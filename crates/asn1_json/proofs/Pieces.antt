@@ -25,17 +25,17 @@ IsInside here inner = (first last : Mark) (ms : List Mark) → here ≡ first �
 
 pub pieces_join : (k : Kept) (l : Leaf) (here inner : List Mark) → here ≡ tape_of k → value_of k ≡ leaf l →
     begins_pieces here ≡ true → IsInside here inner → joined_leaf inner ≡ l
-pieces_join (kept_leaf m) l here inner at v p cut = let g = ap begins_pieces at in absurd (cc)
-pieces_join (kept_string s o os) l here inner at v p cut =
+pieces_join (kept_leaf m) l here inner at v p truncated = let g = ap begins_pieces at in absurd (cc)
+pieces_join (kept_string s o os) l here inner at v p truncated =
     let is : string s (joined (o ∷ os)) ≡ l = cc in
-    ap joined_leaf (cut (pieces_mark (suc (length os))) (pieces_end_mark (suc (length os))) (map (λ y. leaf_mark (string s y)) (o ∷ os)) at)
+    ap joined_leaf (truncated (pieces_mark (suc (length os))) (pieces_end_mark (suc (length os))) (map (λ y. leaf_mark (string s y)) (o ∷ os)) at)
     ∙ string_joined s o os ∙ is
-pieces_join (kept_bits b bs) l here inner at v p cut =
+pieces_join (kept_bits b bs) l here inner at v p truncated =
     let is : bits (joined (b ∷ bs)) ≡ l = cc in
-    ap joined_leaf (cut (pieces_mark (suc (length bs))) (pieces_end_mark (suc (length bs))) (map (λ y. leaf_mark (bits y)) (b ∷ bs)) at)
+    ap joined_leaf (truncated (pieces_mark (suc (length bs))) (pieces_end_mark (suc (length bs))) (map (λ y. leaf_mark (bits y)) (b ∷ bs)) at)
     ∙ ap (λ (z : List Bool). bits (b ++ z)) (bits_joined bs) ∙ is
-pieces_join (kept_row ks) l here inner at v p cut = absurd (cc)
-pieces_join (kept_chosen arm w) l here inner at v p cut = absurd (cc)
+pieces_join (kept_row ks) l here inner at v p truncated = absurd (cc)
+pieces_join (kept_chosen arm w) l here inner at v p truncated = absurd (cc)
 
 pub leaf_joins : (k : Kept) (l : Leaf) (here : List Mark) → here ≡ tape_of k → value_of k ≡ leaf l →
     begins_pieces here ≡ false → joined_leaf here ≡ l

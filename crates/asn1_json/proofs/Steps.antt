@@ -131,13 +131,13 @@ pub leaf_goes : (types : Types) (of : Option ℕ) (fs : List Frame) (here behind
     ((k : Kept) (rest : List Mark) (l : Leaf) → here ≡ tape_of k ++ rest → value_of k ≡ leaf l →
     new ≡ old ++ leaf_tokens (labels_at types.names (resolved types.table of)) l) →
     Goes types (frames.Value of ∷ fs) here fs behind old new
-leaf_goes types of fs here behind old new f cut written = λ shown w.
+leaf_goes types of fs here behind old new f truncated written = λ shown w.
     let k = w.0 in
     let l = leaf_of_front k here w.1 w.3 f in
     let is : shown ≡ leaf_tokens (labels_at types.names (resolved types.table of)) l.0 ++ w.2 =
     w.4 ∙ ap (λ (v : Value). tokens_of types of v ++ w.2) l.1 in (
       w.2,
-      subst (λ (ms : List Mark). Await types fs ms w.2) (sym (cut k w.1 w.3)) w.5,
+      subst (λ (ms : List Mark). Await types fs ms w.2) (sym (truncated k w.1 w.3)) w.5,
       behind_tokens old new _ w.2 shown is (written k w.1 l.0 w.3 l.1),
     )
 
@@ -191,18 +191,18 @@ pub row_goes : (types : Types) (of : Option ℕ) (before after : List Frame) (he
     front_of here ≡ fronts.Value openings.Row → behind ≡ drop 1 here →
     OpensRow (type_of_members types (resolved types.table of)) (resolved types.table of) before after old new →
     Goes types (frames.Value of ∷ reverse before) here (reverse after) behind old new
-row_goes types of before after here behind old new f cut opens = λ shown w.
+row_goes types of before after here behind old new f truncated opens = λ shown w.
     let r = row_of_front w.0 here w.1 w.3 f in
     let is = w.4 ∙ ap (λ (k : Kept). tokens_of types of (value_of k) ++ w.2) r.2 in
     row_opens types of (type_of_members types (resolved types.table of)) before after r.0 r.1 behind w.1 w.2 shown old new refl
-    (cut ∙ r.3) is w.5 opens
+    (truncated ∙ r.3) is w.5 opens
 
 pub arm_goes : (types : Types) (of : Option ℕ) (arm : ℕ) (before after : List Frame) (here behind : List Mark)
     (old new : List Token) → front_of here ≡ fronts.Value (openings.Arm arm) → behind ≡ drop 1 here →
     after ≡ (before ++ frames.ArmEnd ∷ []) ++ frames.Value (type_of_arm types (resolved types.table of) arm) ∷ [] →
     new ≡ (old ++ begin_object ∷ []) ++ key (name_of_arm types (resolved types.table of) arm) ∷ [] →
     Goes types (frames.Value of ∷ reverse before) here (reverse after) behind old new
-arm_goes types of arm before after here behind old new f cut opens written = λ shown w.
+arm_goes types of arm before after here behind old new f truncated opens written = λ shown w.
     let r = arm_of_front w.0 here w.1 arm w.3 f in
     let name = key (name_of_arm types (resolved types.table of) arm) in
     let inner = tokens_of types (type_of_arm types (resolved types.table of) arm) (value_of r.0) in
@@ -212,7 +212,7 @@ arm_goes types of arm before after here behind old new f cut opens written = λ 
     ∙ ap (λ (ts : List Token). begin_object ∷ name ∷ ts) (append_assoc inner (end_object ∷ []) w.2) in (
       left,
       two_more types before after frames.ArmEnd (frames.Value (type_of_arm types (resolved types.table of) arm)) behind left opens
-          (r.0, arm_end_mark arm ∷ w.1, end_object ∷ w.2, cut ∙ r.2, refl, (arm, w.1, w.2, refl, refl, w.5)),
+          (r.0, arm_end_mark arm ∷ w.1, end_object ∷ w.2, truncated ∙ r.2, refl, (arm, w.1, w.2, refl, refl, w.5)),
       behind_tokens old new (begin_object ∷ name ∷ []) left shown whole
           (written ∙ append_assoc old (begin_object ∷ []) (name ∷ [])),
     )
@@ -224,7 +224,7 @@ field_begins : (types : Types) (at : Option ℕ) (place : ℕ) (b : Bool) (befor
     shown ≡ tokens_of_fields types at place (more (value_of k) (values_of ks)) ++ end_object ∷ others →
     Await types (reverse before) rest others → BeginsField b types at place before after old new →
     (left : List Token) × Await types (reverse after) here left × (old ++ shown ≡ new ++ left)
-field_begins types at place true before after k ks n here rest others shown old new e cut is w begins =
+field_begins types at place true before after k ks n here rest others shown old new e truncated is w begins =
     let name = key (name_of_field types at place) in
     let of = type_of_field types at place in
     let inner = tokens_of types of (value_of k) in
@@ -237,10 +237,10 @@ field_begins types at place true before after k ks n here rest others shown old 
     ∙ ap (λ (ts : List Token). name ∷ ts) (append_assoc inner fields (end_object ∷ others)) in (
       left,
       two_more types before after (frames.Fields at (suc place)) (frames.Value of) here left begins.0
-          (k, row_marks ks n rest, last, cut, refl, (ks, n, rest, others, refl, refl, w)),
+          (k, row_marks ks n rest, last, truncated, refl, (ks, n, rest, others, refl, refl, w)),
       behind_tokens old new (name ∷ []) left shown whole begins.1,
     )
-field_begins types at place false before after k ks n here rest others shown old new e cut is w begins =
+field_begins types at place false before after k ks n here rest others shown old new e truncated is w begins =
     let name = key (codes "...") in
     let of = type_of_unknown types at in
     let inner = tokens_of types of (value_of k) in
@@ -255,7 +255,7 @@ field_begins types at place false before after k ks n here rest others shown old
     ∙ append_assoc inner items (end_array ∷ end_object ∷ others)) in (
       left,
       two_more types before after (frames.Items of true) (frames.Value of) here left begins.0
-          (k, row_marks ks n rest, last, cut, refl, (ks, n, rest, others, refl, refl, w)),
+          (k, row_marks ks n rest, last, truncated, refl, (ks, n, rest, others, refl, refl, w)),
       behind_tokens old new (name ∷ begin_array ∷ []) left shown whole
           (begins.1 ∙ append_assoc old (name ∷ []) (begin_array ∷ [])),
     )
@@ -273,12 +273,12 @@ field_goes types at place before after here o old new f begins = λ shown w.
 pub fields_end : (types : Types) (at : Option ℕ) (place : ℕ) (fs : List Frame) (here behind : List Mark) (old new : List Token) →
     front_of here ≡ fronts.Close → behind ≡ drop 1 here → new ≡ old ++ end_object ∷ [] →
     Goes types (frames.Fields at place ∷ fs) here fs behind old new
-fields_end types at place fs here behind old new f cut written = λ shown w.
+fields_end types at place fs here behind old new f truncated written = λ shown w.
     let m = end_of_front w.0 w.1 here w.2 w.4 f in
     let is : shown ≡ (end_object ∷ []) ++ w.3 =
     w.5 ∙ ap (λ (ks : KeptRow). tokens_of_fields types at place (values_of ks) ++ end_object ∷ w.3) m.0 in (
       w.3,
-      subst (λ (ms : List Mark). Await types fs ms w.3) (sym (cut ∙ m.1)) w.6,
+      subst (λ (ms : List Mark). Await types fs ms w.3) (sym (truncated ∙ m.1)) w.6,
       behind_tokens old new (end_object ∷ []) w.3 shown is written,
     )
 
@@ -286,13 +286,13 @@ pub field_gone : (types : Types) (at : Option ℕ) (place next : ℕ) (before af
     (old : List Token) → front_of here ≡ fronts.Gone → behind ≡ drop 1 here → after ≡ before ++ frames.Fields at next ∷ [] →
     ((vs : Values) → tokens_of_fields types at next vs ≡ tokens_of_fields types at (suc place) vs) →
     Goes types (frames.Fields at place ∷ reverse before) here (reverse after) behind old old
-field_gone types at place next before after here behind old f cut pushed same = λ shown w.
+field_gone types at place next before after here behind old f truncated pushed same = λ shown w.
     let m = gone_of_front w.0 w.1 here w.2 w.4 f in
     let is : shown ≡ tokens_of_fields types at next (values_of m.0) ++ end_object ∷ w.3 =
     w.5 ∙ ap (λ (ks : KeptRow). tokens_of_fields types at place (values_of ks) ++ end_object ∷ w.3) m.1
     ∙ ap (λ (ts : List Token). ts ++ end_object ∷ w.3) (sym (same (values_of m.0))) in (
       shown,
-      one_more types before after (frames.Fields at next) behind shown pushed (m.0, w.1, w.2, w.3, cut ∙ m.2, is, w.6),
+      one_more types before after (frames.Fields at next) behind shown pushed (m.0, w.1, w.2, w.3, truncated ∙ m.2, is, w.6),
       refl,
     )
 
@@ -324,12 +324,12 @@ item_goes types of are_unknown before after here o old f pushed = λ shown w.
 pub items_end_goes : (types : Types) (of : Option ℕ) (are_unknown : Bool) (fs : List Frame) (here behind : List Mark)
     (old new : List Token) → front_of here ≡ fronts.Close → behind ≡ drop 1 here → new ≡ old ++ items_end are_unknown →
     Goes types (frames.Items of are_unknown ∷ fs) here fs behind old new
-items_end_goes types of are_unknown fs here behind old new f cut written = λ shown w.
+items_end_goes types of are_unknown fs here behind old new f truncated written = λ shown w.
     let m = end_of_front w.0 w.1 here w.2 w.4 f in
     let is : shown ≡ items_end are_unknown ++ w.3 =
     w.5 ∙ ap (λ (ks : KeptRow). tokens_of_items types of (values_of ks) ++ (items_end are_unknown ++ w.3)) m.0 in (
       w.3,
-      subst (λ (ms : List Mark). Await types fs ms w.3) (sym (cut ∙ m.1)) w.6,
+      subst (λ (ms : List Mark). Await types fs ms w.3) (sym (truncated ∙ m.1)) w.6,
       behind_tokens old new (items_end are_unknown) w.3 shown is written,
     )
 
@@ -337,12 +337,12 @@ pub item_gone : (types : Types) (of : Option ℕ) (are_unknown : Bool) (before a
     (old : List Token) → front_of here ≡ fronts.Gone → behind ≡ drop 1 here →
     after ≡ before ++ frames.Items of are_unknown ∷ [] →
     Goes types (frames.Items of are_unknown ∷ reverse before) here (reverse after) behind old old
-item_gone types of are_unknown before after here behind old f cut pushed = λ shown w.
+item_gone types of are_unknown before after here behind old f truncated pushed = λ shown w.
     let m = gone_of_front w.0 w.1 here w.2 w.4 f in
     let is : shown ≡ tokens_of_items types of (values_of m.0) ++ (items_end are_unknown ++ w.3) =
     w.5 ∙ ap (λ (ks : KeptRow). tokens_of_items types of (values_of ks) ++ (items_end are_unknown ++ w.3)) m.1 in (
       shown,
-      one_more types before after (frames.Items of are_unknown) behind shown pushed (m.0, w.1, w.2, w.3, cut ∙ m.2, is, w.6),
+      one_more types before after (frames.Items of are_unknown) behind shown pushed (m.0, w.1, w.2, w.3, truncated ∙ m.2, is, w.6),
       refl,
     )
 

@@ -20,8 +20,8 @@ use Rattle.asn1_json.proofs.Steps.{light, two_last, leaf_goes, row_goes, arm_goe
 -- a mark is taken
 taken : (here behind : List Mark) (f : Front) → front_of here ≡ f → (f ≡ fronts.Nothing → ⊥) → behind ≡ drop 1 here →
     length behind < length here
-taken [] behind f e some cut = absurd (some (sym e))
-taken (m ∷ ms) behind f e some cut = let is = ap (λ (x : List Mark). length x) cut in omega (arith, is)
+taken [] behind f e some truncated = absurd (some (sym e))
+taken (m ∷ ms) behind f e some truncated = let is = ap (λ (x : List Mark). length x) truncated in omega (arith, is)
 
 -- so a step is made
 fewer_behind : (f : Frame) (fs gs : List Frame) (here behind : List Mark) → length behind < length here →
@@ -55,35 +55,35 @@ module _ (types : Types) (before : List Frame) (here behind : List Mark) (old ne
       ((k : Kept) (rest : List Mark) (l : Leaf) → here ≡ tape_of k ++ rest → value_of k ≡ leaf l →
       new ≡ old ++ leaf_tokens (labels_at types.names at) l) →
       Steps types (frames.Value of ∷ reverse before) here (reverse before) behind old new
-  leaf_step of at same f shorter cut written = record {
-    goes = leaf_goes types of (reverse before) here behind old new f cut
+  leaf_step of at same f shorter truncated written = record {
+    goes = leaf_goes types of (reverse before) here behind old new f truncated
         (λ k rest l e v. written k rest l e v ∙ ap (λ (a : Option ℕ). old ++ leaf_tokens (labels_at types.names a) l) same);
     fewer = fewer_behind (frames.Value of) (reverse before) (reverse before) here behind shorter (omega arith);
   }
 
   pub fields_end_step : (at : Option ℕ) (place : ℕ) → front_of here ≡ fronts.Close → behind ≡ drop 1 here →
       new ≡ old ++ end_object ∷ [] → Steps types (frames.Fields at place ∷ reverse before) here (reverse before) behind old new
-  fields_end_step at place f cut written = record {
-    goes = fields_end types at place (reverse before) here behind old new f cut written;
-    fewer = fewer_behind (frames.Fields at place) (reverse before) (reverse before) here behind (taken here behind fronts.Close f (λ e. cc) cut) (omega arith);
+  fields_end_step at place f truncated written = record {
+    goes = fields_end types at place (reverse before) here behind old new f truncated written;
+    fewer = fewer_behind (frames.Fields at place) (reverse before) (reverse before) here behind (taken here behind fronts.Close f (λ e. cc) truncated) (omega arith);
   }
 
   pub items_end_step : (of : Option ℕ) (are_unknown : Bool) → front_of here ≡ fronts.Close → behind ≡ drop 1 here →
       new ≡ old ++ items_end are_unknown →
       Steps types (frames.Items of are_unknown ∷ reverse before) here (reverse before) behind old new
-  items_end_step of are_unknown f cut written = record {
-    goes = items_end_goes types of are_unknown (reverse before) here behind old new f cut written;
-    fewer = fewer_behind (frames.Items of are_unknown) (reverse before) (reverse before) here behind (taken here behind fronts.Close f (λ e. cc) cut) (omega arith);
+  items_end_step of are_unknown f truncated written = record {
+    goes = items_end_goes types of are_unknown (reverse before) here behind old new f truncated written;
+    fewer = fewer_behind (frames.Items of are_unknown) (reverse before) (reverse before) here behind (taken here behind fronts.Close f (λ e. cc) truncated) (omega arith);
   }
 
 module _ (types : Types) (before after : List Frame) (here behind : List Mark) (old new : List Token) where
   pub row_step : (of at : Option ℕ) → at ≡ resolved types.table of → front_of here ≡ fronts.Value openings.Row →
       behind ≡ drop 1 here → OpensRow (type_of_members types at) at before after old new →
       Steps types (frames.Value of ∷ reverse before) here (reverse after) behind old new
-  row_step of at same f cut opens = record {
-    goes = row_goes types of before after here behind old new f cut
+  row_step of at same f truncated opens = record {
+    goes = row_goes types of before after here behind old new f truncated
         (subst (λ (a : Option ℕ). OpensRow (type_of_members types a) a before after old new) same opens);
-    fewer = fewer_behind (frames.Value of) (reverse before) (reverse after) here behind (taken here behind (fronts.Value openings.Row) f (λ e. cc) cut) (omega arith);
+    fewer = fewer_behind (frames.Value of) (reverse before) (reverse after) here behind (taken here behind (fronts.Value openings.Row) f (λ e. cc) truncated) (omega arith);
   }
 
   pub arm_step : (of at : Option ℕ) (arm : ℕ) → at ≡ resolved types.table of →
@@ -91,11 +91,11 @@ module _ (types : Types) (before after : List Frame) (here behind : List Mark) (
       after ≡ (before ++ frames.ArmEnd ∷ []) ++ frames.Value (type_of_arm types at arm) ∷ [] →
       new ≡ (old ++ begin_object ∷ []) ++ key (name_of_arm types at arm) ∷ [] →
       Steps types (frames.Value of ∷ reverse before) here (reverse after) behind old new
-  arm_step of at arm same f cut opens written = record {
-    goes = arm_goes types of arm before after here behind old new f cut
+  arm_step of at arm same f truncated opens written = record {
+    goes = arm_goes types of arm before after here behind old new f truncated
         (opens ∙ ap (λ (a : Option ℕ). (before ++ frames.ArmEnd ∷ []) ++ frames.Value (type_of_arm types a arm) ∷ []) same)
         (written ∙ ap (λ (a : Option ℕ). (old ++ begin_object ∷ []) ++ key (name_of_arm types a arm) ∷ []) same);
-    fewer = fewer_behind (frames.Value of) (reverse before) (reverse after) here behind (taken here behind (fronts.Value (openings.Arm arm)) f (λ e. cc) cut) (omega arith);
+    fewer = fewer_behind (frames.Value of) (reverse before) (reverse after) here behind (taken here behind (fronts.Value (openings.Arm arm)) f (λ e. cc) truncated) (omega arith);
   }
 
 module _ (types : Types) (before after : List Frame) (here behind : List Mark) (old : List Token) where
@@ -103,17 +103,17 @@ module _ (types : Types) (before after : List Frame) (here behind : List Mark) (
       after ≡ before ++ frames.Fields at next ∷ [] →
       ((vs : Values) → tokens_of_fields types at next vs ≡ tokens_of_fields types at (suc place) vs) →
       Steps types (frames.Fields at place ∷ reverse before) here (reverse after) behind old old
-  field_gone_step at place next f cut more same = record {
-    goes = field_gone types at place next before after here behind old f cut more same;
-    fewer = fewer_behind (frames.Fields at place) (reverse before) (reverse after) here behind (taken here behind fronts.Gone f (λ e. cc) cut) (omega arith);
+  field_gone_step at place next f truncated more same = record {
+    goes = field_gone types at place next before after here behind old f truncated more same;
+    fewer = fewer_behind (frames.Fields at place) (reverse before) (reverse after) here behind (taken here behind fronts.Gone f (λ e. cc) truncated) (omega arith);
   }
 
   pub item_gone_step : (of : Option ℕ) (are_unknown : Bool) → front_of here ≡ fronts.Gone → behind ≡ drop 1 here →
       after ≡ before ++ frames.Items of are_unknown ∷ [] →
       Steps types (frames.Items of are_unknown ∷ reverse before) here (reverse after) behind old old
-  item_gone_step of are_unknown f cut more = record {
-    goes = item_gone types of are_unknown before after here behind old f cut more;
-    fewer = fewer_behind (frames.Items of are_unknown) (reverse before) (reverse after) here behind (taken here behind fronts.Gone f (λ e. cc) cut) (omega arith);
+  item_gone_step of are_unknown f truncated more = record {
+    goes = item_gone types of are_unknown before after here behind old f truncated more;
+    fewer = fewer_behind (frames.Items of are_unknown) (reverse before) (reverse after) here behind (taken here behind fronts.Gone f (λ e. cc) truncated) (omega arith);
   }
 
 module _ (types : Types) (before after : List Frame) (here : List Mark) (o : Opening) (old : List Token) where

@@ -4,3 +4,10 @@ pub mod Types
 pub mod Tokens
 pub mod Walk
 pub mod Shown
+pub mod Numerals
+pub mod Made
+pub mod DenotedLeaves
+pub mod Denotes
+pub mod MadeFrom
+pub mod Trees
+pub mod Outcomes

@@ -39,7 +39,7 @@ fn string_of(alloc: Global, text: &[u8]) -> Result<String, AllocError>
 }
 
 /// The text of the number that contents octets say (X.690 8.3).
-fn integer_text(alloc: Global, content: &[u8]) -> Result<String, AllocError>
+pub(crate) fn integer_text(alloc: Global, content: &[u8]) -> Result<String, AllocError>
     ensures { IfOk result (λ text.
         string_bytes text ≡ integer_text (twos_complement_value content.now)) }
 {
@@ -97,7 +97,7 @@ fn put_hexadecimal<W: TokenWriter>(
 }
 
 /// The arcs of an identifier, with points between them.
-fn arcs_text(alloc: Global, relative: bool, content: &[u8]) -> Result<String, AllocError>
+pub(crate) fn arcs_text(alloc: Global, relative: bool, content: &[u8]) -> Result<String, AllocError>
     requires { are_shown relative content.now ≡ true }
     ensures { IfOk result (λ text.
         string_bytes text ≡ spec_arcs_text (spec_arcs relative content.now)) }
@@ -125,7 +125,7 @@ fn put_identifier<W: TokenWriter>(
 }
 
 /// The octets of an element of definite length, where memory suffices.
-fn element(
+pub(crate) fn element(
     alloc: Global,
     class: u8,
     constructed: bool,

@@ -4,8 +4,10 @@
 pub mod bits;
 pub mod error;
 pub mod front;
+pub mod laws;
 pub mod leaves;
 pub mod out;
+pub mod reading;
 pub mod shown;
 pub mod texts;
 pub mod types;
@@ -13,4 +15,5 @@ pub mod walk;
 
 pub use error::JsonError;
 pub use out::TokenWriter;
+pub use reading::{FromJsonError, JsonRefusal, tape_from_json};
 pub use shown::{json_of, write_value};

@@ -2,6 +2,7 @@
 ghost use Rattle.std.specs.Prelude.{ℤ, ◌≡◌, MatchOption, Some, None, length, slice_get, option_and_then, nat_lt, true, ◌<◌, ◌^◌};
 ghost use Rattle.std.specs.Ordering.{int_eq};
 ghost use Rattle.asn1_schema.specs.Cursor.{IsNumber};
+ghost use Rattle.asn1_json.specs.DenotedLeaves.{number_named};
 ghost use Rattle.asn1_json.specs.Leaves.{name_of};
 ghost use Rattle.asn1_json.specs.Types.{inner_type, kind_at, innermost, resolved, labels_at, fields_of, arms_of};
 ghost use Rattle.asn1_json.specs.Types.{is_any};
@@ -79,6 +80,18 @@ fn name_of<'l>(labels: &'l [PartName<'_>], number: Option<i128>) -> &'l str
     ""
 }
 
+/// The number that the first part with a name stands for.
+fn number_named(labels: &[PartName<'_>], name: &str) -> Option<i128>
+    ensures { result ≡ number_named labels.now name.now }
+{
+    for label in labels {
+        if label.name == name {
+            return Some(label.number);
+        }
+    }
+    None
+}
+
 impl<'s, 'n> Types<'s, 'n> {
     /// The kind of the type at a place, if one is given.
     pub fn kind(self, at: Option<usize>) -> Option<&'s Kind>
@@ -113,6 +126,16 @@ impl<'s, 'n> Types<'s, 'n> {
         name_of(names.labels.as_slice(), number)
     }
 
+    /// The number that the first part of a type with a name stands for.
+    pub(crate) fn number(self, at: usize, name: &str) -> Option<i128>
+        ensures { result ≡ number_named (labels_at self.entry.names.now (Some at)) name.now }
+    {
+        match self.names.get(at) {
+            Some(names) => number_named(names.labels.as_slice(), name),
+            None => None,
+        }
+    }
+
     /// The type of the members of a list; none where it is no list.
     pub fn of_members(self, at: Option<usize>) -> Option<usize>
         ensures { result ≡ type_of_members (seen self.entry) at }
@@ -125,7 +148,7 @@ impl<'s, 'n> Types<'s, 'n> {
     }
 
     /// The fields of a row.
-    fn fields(self, at: Option<usize>) -> &'s [Field]
+    pub(crate) fn fields(self, at: Option<usize>) -> &'s [Field]
         ensures { result.now ≡ fields_of (kind_at self.entry.table.now at) }
     {
         match self.kind(at) {
@@ -165,7 +188,7 @@ impl<'s, 'n> Types<'s, 'n> {
     }
 
     /// The arms of a choice.
-    fn arms(self, at: Option<usize>) -> &'s [usize]
+    pub(crate) fn arms(self, at: Option<usize>) -> &'s [usize]
         ensures { result.now ≡ arms_of (kind_at self.entry.table.now at) }
     {
         match self.kind(at) {

@@ -1,3 +1,4 @@
+pub mod Leads
 pub mod Mistakes
 pub mod Modules
 pub mod Tokens

@@ -23,15 +23,15 @@ fn tag_of(schema: &Schema<'_>, of: usize) -> Option<TypeTag> {
 /// The octets of a number: the fewest that have it in two's complement (X.690 8.3).
 fn number_octets(number: i128) -> ([u8; 16], usize) {
     let octets = number.to_be_bytes();
-    let mut spare = 0usize;
+    let mut redundant = 0usize;
     for pair in octets.windows(2) {
         match pair {
-            [0x00, second] if *second < 0x80 => spare = spare.saturating_add(1),
-            [0xff, second] if *second >= 0x80 => spare = spare.saturating_add(1),
+            [0x00, second] if *second < 0x80 => redundant = redundant.saturating_add(1),
+            [0xff, second] if *second >= 0x80 => redundant = redundant.saturating_add(1),
             _ => break,
         }
     }
-    (octets, spare)
+    (octets, redundant)
 }
 
 /// The value of a hexadecimal digit, or none.
@@ -167,9 +167,9 @@ fn number_contents(alloc: Global, number: Option<i128>) -> Result<Option<Vec<u8>
     let Some(number) = number else {
         return Ok(None);
     };
-    let (octets, spare) = number_octets(number);
+    let (octets, redundant) = number_octets(number);
     let mut contents = Vec::new(alloc);
-    for octet in octets.iter().skip(spare) {
+    for octet in octets.iter().skip(redundant) {
         contents.push(*octet)?;
     }
     Ok(Some(contents))

@@ -5,6 +5,7 @@ mod components;
 mod defaults;
 mod definitions;
 mod identifiers;
+mod leads;
 pub mod mistake;
 pub mod modules;
 mod places;

@@ -33,6 +33,10 @@ pub enum Wrong {
     Twice,
     /// Another component, arm, number or bit of the type has the name (X.680 19, 20, 22, 25, 27, 29).
     SameName,
+    /// Another number or bit of the type, which has another name, is this one (X.680 19, 20, 22).
+    SameNumber,
+    /// An arm of a choice may not be left out (X.680 29).
+    ArmLeftOut,
     /// No assignment and no import has the name.
     NotDefined,
     /// The name is imported from a module that is not given, or that does not define it.
@@ -131,6 +135,8 @@ impl fmt::Display for Wrong {
             Wrong::Number => write!(f, "the number is too large"),
             Wrong::Twice => write!(f, "assigned twice"),
             Wrong::SameName => write!(f, "another one before it has this name"),
+            Wrong::SameNumber => write!(f, "another one before it has this number"),
+            Wrong::ArmLeftOut => write!(f, "an arm is neither OPTIONAL nor DEFAULT"),
             Wrong::NotDefined => write!(f, "not defined"),
             Wrong::NotImported => write!(f, "not defined in the module that it is imported from"),
             Wrong::NotType => write!(f, "not a type"),

@@ -1,9 +1,11 @@
 //! Modules, read into a table.
 ghost use Rattle.std.specs.Prelude.{◌≡◌, ◌≢◌, ◌<◌, length, true, false, IfSome, IfNone, IfOk, IfErr, OnOk};
+ghost use Rattle.asn1_module.specs.Leads.{added_in_order, lead_within};
 ghost use Rattle.asn1_module.specs.Mistakes.{StandsWithin};
 ghost use Rattle.asn1_module.specs.Modules.{HavePlaces, IsTypeNamed, LacksType};
 
 use crate::components::Rows;
+use crate::leads::check_leads;
 use crate::mistake::{Mistake, ModuleError, Place, Wrong};
 use crate::places::Places;
 use crate::reader::Reader;
@@ -169,11 +171,17 @@ fn read_texts<'t>(
     schema: &mut Schema<'t>,
     notes: &mut Vec<Note>,
 ) -> Result<Modules<'t>, ModuleError>
-    ensures { IfOk result (λ modules.
+    ensures places { IfOk result (λ modules.
         HavePlaces modules.types.items (length schema.new.nodes.items)) }
+    ensures leads { IfOk result (λ _. lead_within schema.new.nodes.items ≡ true) }
+    ensures order { IfOk result (λ _.
+        added_in_order (length schema.old.nodes.items) schema.new.nodes.items ≡ true) }
 {
+    let count = schema.nodes.len();
     let mut syntax = read_syntax(alloc, texts)?;
-    make_types(alloc, &mut syntax, schema, notes)
+    let modules = make_types(alloc, &mut syntax, schema, notes)?;
+    check_leads(&schema.nodes, count)?;
+    Ok(modules)
 }
 
 /// Reads modules and puts their types into a table. Names are resolved among all of them.
@@ -188,6 +196,9 @@ pub fn read_modules<'t>(
     ensures mistake { IfErr result (StandsWithin texts.now) }
     ensures places { IfOk result (λ modules.
         HavePlaces modules.types.items (length schema.new.nodes.items)) }
+    ensures leads { IfOk result (λ _. lead_within schema.new.nodes.items ≡ true) }
+    ensures order { IfOk result (λ _.
+        added_in_order (length schema.old.nodes.items) schema.new.nodes.items ≡ true) }
 {
     match read_texts(alloc, texts, schema, notes) {
         Ok(modules) => Ok(modules),

@@ -158,7 +158,27 @@ impl<'s, 't> Texts<'s, 't> {
                 None => return Err(named.place.error(Wrong::NoNumber)),
             }
         }
+        self.check_numbers(alloc, span, &labels)?;
         Ok(labels)
+    }
+
+    /// Checks that no two names have one number. The refusal stands at the second one.
+    fn check_numbers(
+        self,
+        alloc: Global,
+        span: Span,
+        labels: &[PartName<'t>],
+    ) -> Result<(), ModuleError> {
+        let mut numbers = Vec::new(alloc);
+        for (place, label) in labels.iter().enumerate() {
+            numbers.push((label.number, place))?;
+        }
+        numbers.sort_unstable();
+        let named = part(&self.syntax.numbers, span);
+        match repeated(&numbers).and_then(|place| named.get(place)) {
+            None => Ok(()),
+            Some(second) => Err(second.place.error(Wrong::SameNumber)),
+        }
     }
 
     /// The number that is written for a name, if one is.
@@ -209,6 +229,7 @@ impl<'s, 't> Texts<'s, 't> {
             }
             labels.push(label(named.name, number))?;
         }
+        self.check_numbers(alloc, span, &labels)?;
         Ok(labels)
     }
 
@@ -250,6 +271,19 @@ pub(crate) fn labelled(labels: &[PartName<'_>], name: &str) -> Option<i128> {
         if named.name == name {
             return Some(named.number);
         }
+    }
+    None
+}
+
+/// The place of the second one of two equal numbers, of numbers that ascend.
+fn repeated(numbers: &[(i128, usize)]) -> Option<usize> {
+    let (first, others) = numbers.split_first()?;
+    let mut before = first.0;
+    for (number, place) in others {
+        if *number == before {
+            return Some(*place);
+        }
+        before = *number;
     }
     None
 }

@@ -6,43 +6,43 @@ use Rattle.std.specs.List.{All}
 use Rattle.std.specs.Iterator.{Yields}
 use Rattle.std.specs.Iterator.Runs.{Run, YieldsRun}
 use Rattle.x690.specs.Elements.{Parts}
-use Rattle.x690.specs.Joined.{IsJoined}
+use Rattle.x690.specs.Joined.{IsConcatenation}
 use Rattle.x690.specs.Laws.Joined.{joined_same}
 use Rattle.x690.specs.Octets.{IsOctets}
 use Rattle.asn1_headers.specs.Answers.{IsOther, TellsMemory}
 use Rattle.asn1_headers.specs.Error.{FlattenedTo, HeldIn}
 use Rattle.asn1_headers.specs.Walk.{EndsItem, TakesItem}
 use Rattle.asn1_headers.specs.declared.error.Err.{Err as Refusal}
-use Rattle.asn1_headers.specs.declared.error.Err.TheVariants.{Incomplete as cut, Error as refused, Failure as failed}
+use Rattle.asn1_headers.specs.declared.error.Err.TheVariants.{Incomplete as truncated, Error as refused, Failure as failed}
 use Rattle.asn1_headers.specs.declared.error.Error.{Error}
 use Rattle.asn1_headers.specs.declared.error.Error.TheVariants as errors
 use Rattle.asn1_rs.specs.declared.asn1_types.sequence.iterator.SequenceIterator.{SequenceIterator}
 use Rattle.asn1_rs.specs.Checks.{CheckGives}
 use Rattle.asn1_rs.specs.Kinds.{IsExactCheck}
-use Rattle.asn1_rs.specs.Lists.{HasNoJoining, ItemsGive, ListTakes, MadeOf, ShapedList}
+use Rattle.asn1_rs.specs.Lists.{HasNoConcatenation, ItemsGive, ListTakes, MadeOf, ShapedList}
 use Rattle.asn1_rs.specs.ToDer.{HasNone}
 use Rattle.asn1_rs.specs.Laws.Lists.{taken_joined, taken_none}
 use Rattle.asn1_rs.specs.Laws.Sequence.Iterator.{octets_kept, octets_walked}
 use Rattle.asn1_rs.specs.Sequence.Iterator.{octets_left, WalkSteps, ReadsExactly}
 
 module _ {T V E : Type 0} (reads : List ℕ → Result (List ℕ × T) (Refusal E) → Type 0) (from : Error → E → Type 0)
-    (G : List ℕ → V → Type 0) (value : T → V) (allocates : Bool) (IsCut : List ℕ → Type 0)
-    (exact : ReadsExactly IsCut G value (TellsMemory allocates from) reads) where
+    (G : List ℕ → V → Type 0) (value : T → V) (allocates : Bool) (IsTruncated : List ℕ → Type 0)
+    (exact : ReadsExactly IsTruncated G value (TellsMemory allocates from) reads) where
   pub all_joined : (content : List ℕ) (items : List T) → IsOctets content → ItemsGive reads from content (Ok items) →
-      IsJoined G content (map value items)
-  all_joined content items o y = taken_joined reads from G value allocates IsCut exact.one_word IsOctets octets_kept
+      IsConcatenation G content (map value items)
+  all_joined content items o y = taken_joined reads from G value allocates IsTruncated exact.one_word IsOctets octets_kept
       exact.takes items content [] o refl y
 
   pub alone_joined : (content : List ℕ) (items : List T) (values : List V) → IsOctets content →
-      ItemsGive reads from content (Ok items) → IsJoined G content values → values ≡ map value items
+      ItemsGive reads from content (Ok items) → IsConcatenation G content values → values ≡ map value items
   alone_joined content items values o y j =
       joined_same G exact.one_word content content values (map value items) refl j (all_joined content items o y)
 
   pub none_joined : (content : List ℕ) (e : E) → IsOctets content → ItemsGive {T = T} reads from content (Err e) →
-      from errors.OutOfMemory e ⊎ HasNoJoining G content
+      from errors.OutOfMemory e ⊎ HasNoConcatenation G content
   none_joined content e o (inl m) = inl m
   none_joined content e o (inr s) =
-      elim (taken_none reads from G value allocates IsCut exact.one_word IsOctets octets_kept exact.takes s.0 e content
+      elim (taken_none reads from G value allocates IsTruncated exact.one_word IsOctets octets_kept exact.takes s.0 e content
       s.1 o s.2) [
         | inl m ↦ inl m.1
         | inr none ↦ inr none
@@ -71,23 +71,23 @@ module _ {T E : Type 0} (reads : List ℕ → Result (List ℕ × T) (Refusal E)
   end_no_memory octets (Err r) e g w = told r (asks_no_memory octets (Err r) g) w
     where
       told : (r : Refusal E) → HeldIn (IsOther from) r → FlattenedTo (λ x y. y ≡ x) from r e → IsOther from e
-      told (cut n) h f = inl (errors.Incomplete n, (λ h. cc), f)
+      told (truncated n) h f = inl (errors.Incomplete n, (λ h. cc), f)
       told (refused x) h f = subst (IsOther from) (sym f) h
       told (failed x) h f = subst (IsOther from) (sym f) h
 
-  abbrev Spared : Result T E → Type 0
-  Spared answer = IfErr answer (IsOther from)
+  abbrev Redundant : Result T E → Type 0
+  Redundant answer = IfErr answer (IsOther from)
 
   pub walk_no_memory : (answers : List (Result T E)) (content left : List ℕ) →
-      Yields (TakesItem reads from) content answers left → All Spared answers
-  walk_no_memory [] content left y = All-nil Spared
+      Yields (TakesItem reads from) content answers left → All Redundant answers
+  walk_no_memory [] content left y = All-nil Redundant
   walk_no_memory (Ok x ∷ answers) content left (j, s, y) =
-      All-cons Spared (Ok x) answers tt (walk_no_memory answers j left y)
+      All-cons Redundant (Ok x) answers tt (walk_no_memory answers j left y)
   walk_no_memory (Err e ∷ answers) content left (j, s, y) =
-      All-cons Spared (Err e) answers (end_no_memory content s.1.0 e s.1.1 s.1.2) (walk_no_memory answers j left y)
+      All-cons Redundant (Err e) answers (end_no_memory content s.1.0 e s.1.1 s.1.2) (walk_no_memory answers j left y)
 
   pub run_no_memory : {F : Type 0} (p : Run {S = SequenceIterator T F E} {A = Result T E} (WalkSteps reads from)) →
-      All Spared p.items
+      All Redundant p.items
   unfolding YieldsRun
   run_no_memory p =
       let y = p.gave.0 in

@@ -23,7 +23,7 @@ use Rattle.x690.specs.Rules.{der_rule}
 use Rattle.x690.specs.Laws.Elements.{definite_element_two}
 use Rattle.asn1_rs.specs.declared.asn1_types.any.Any.{Any}
 use Rattle.asn1_headers.specs.declared.error.Err.{Err as Refusal}
-use Rattle.asn1_headers.specs.declared.error.Err.TheVariants.{Incomplete as cut, Error as refused, Failure as failed}
+use Rattle.asn1_headers.specs.declared.error.Err.TheVariants.{Incomplete as truncated, Error as refused, Failure as failed}
 use Rattle.asn1_headers.specs.Error.{Converted, FlattenedTo}
 use Rattle.asn1_headers.specs.Header.Reading.{Refused, der_refusal}
 use Rattle.asn1_rs.specs.Any.{parts_of, BeginsWithAny}
@@ -171,7 +171,7 @@ none_of_all refuses xs i l a = none_refuses refuses xs (subst (All (λ x. HasNon
 
 -- The first element that was checked, as a step of a walk over checked elements.
 converted_itself : (r : Refusal Error) → Converted (λ (x y : Error). y ≡ x) r r
-converted_itself (cut n) = refl
+converted_itself (truncated n) = refl
 converted_itself (refused e) = (e, refl, refl)
 converted_itself (failed e) = (e, refl, refl)
 

@@ -24,18 +24,18 @@ length_at strings lengths i e lt =
 
 -- a piece at the front of strings that are joined, and what is left behind it
 module _ (strings : List (List ℕ)) (i : ℕ) (lt : i < length strings) (rest : List ℕ)
-    (left : rest ≡ concat (drop i strings)) (cut : ℕ)
-    (is : cut ≡ min (length (get_or strings i [])) (length rest)) where
+    (left : rest ≡ concat (drop i strings)) (truncated : ℕ)
+    (is : truncated ≡ min (length (get_or strings i [])) (length rest)) where
   whole : rest ≡ get_or strings i [] ++ concat (drop (i + 1) strings)
   whole = left ∙ ap concat (drop_more strings i [] lt)
 
-  long : cut ≡ length (get_or strings i [])
+  long : truncated ≡ length (get_or strings i [])
   long =
       is ∙ min-eq_left (let l = ap length whole ∙ length-append (get_or strings i []) (concat (drop (i + 1) strings)) in
       omega (arith, l))
 
-  pub piece_front : take cut rest ≡ get_or strings i []
+  pub piece_front : take truncated rest ≡ get_or strings i []
   piece_front = rw (whole, long) (take_at (get_or strings i []) (concat (drop (i + 1) strings)) _ refl)
 
-  pub piece_back : drop cut rest ≡ concat (drop (i + 1) strings)
+  pub piece_back : drop truncated rest ≡ concat (drop (i + 1) strings)
   piece_back = rw (whole, long) (drop_at (get_or strings i []) (concat (drop (i + 1) strings)) _ refl)

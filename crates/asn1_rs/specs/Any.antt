@@ -101,7 +101,7 @@ BerElementGives = AnyGives (IsElement max_depth) (ElementFault max_depth) ber_re
 
 -- no element begins the input after a refusal, nor more octets of which the refusal speaks
 abbrev pub RefusalLasts : (List ℕ → Parts → Type 0) → (List ℕ → Type 0) → List ℕ → Refusal Error → Type 0
-RefusalLasts ElementOf IsCut input r = (more word rest : List ℕ) (p : Parts) → Speaks (IsCut input) r more →
+RefusalLasts ElementOf IsTruncated input r = (more word rest : List ℕ) (p : Parts) → Speaks (IsTruncated input) r more →
     ElementOf word p → input ++ more ≡ word ++ rest → ⊥
 
 -- no other element begins the input, whatever follows

@@ -2,7 +2,7 @@
 use Rattle.std.specs.Prelude.{◌≡◌, ◌<◌, ◌^◌, List, ℕ, length, Result, MatchResult}
 use Rattle.std.specs.declared.vec.Vec.{Vec}
 use Rattle.std.specs.declared.alloc.Global.{Global}
-use Rattle.x690.specs.Identifiers.{IsCutIdentifier}
+use Rattle.x690.specs.Identifiers.{IsTruncatedIdentifier}
 use Rattle.asn1_headers.specs.Answers.{Exactly, TellsMemory}
 use Rattle.asn1_headers.specs.Ber.{EndsWithin}
 use Rattle.asn1_headers.specs.declared.error.Err.{Err as Refusal}
@@ -15,7 +15,7 @@ use Rattle.asn1_rs.specs.ToDer.{Writing, whole_octets}
 
 -- Ok exactly where a word of the grammar by DER begins the octets; an Err is final, or out of memory.
 abbrev pub ReadsByDer : {T : Type 0} → ItemGrammar T → List ℕ → Result (List ℕ × T) (Refusal Error) → Type 0
-ReadsByDer G = Exactly IsCutIdentifier G.Der G.value (TellsMemory G.allocates (λ (e f : Error). f ≡ e))
+ReadsByDer G = Exactly IsTruncatedIdentifier G.Der G.value (TellsMemory G.allocates (λ (e f : Error). f ≡ e))
 
 -- the same by BER
 abbrev pub ReadsByBer : {T : Type 0} → ItemGrammar T → List ℕ → Result (List ℕ × T) (Refusal Error) → Type 0

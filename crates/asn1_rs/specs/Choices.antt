@@ -1,5 +1,10 @@
 -- Choices of types that are told apart by the class and the tag number of their elements (X.680 29).
 pub mod Data
+pub mod Heap
+pub mod Nested
+pub mod Taken
+pub mod TaggedStructs
+pub mod Within
 use Rattle.std.specs.Prelude.{◌≡◌, ◌≢◌, ◌⊎◌, ◌||◌, ◌&&◌, ℕ, Bool, true, false, IsTrue, List, [], ◌∷◌, Result, Ok, Err}
 use Rattle.std.specs.Prelude.{None, nat_eq, not, IfOk, IfErr, IsErr, length}
 use Rattle.std.proofs.Common.{inl, inr}

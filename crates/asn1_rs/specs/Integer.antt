@@ -7,7 +7,7 @@ use Rattle.x690.specs.Digits.{base_256_value, twos_complement_value}
 use Rattle.x690.specs.Identifiers.{Identifier}
 use Rattle.x690.specs.Lengths.{indefinite}
 use Rattle.x690.specs.Elements.{Parts}
-use Rattle.x690.specs.Integers.{HasSpareZeros, HasSpareOnes, IsShortestInteger, IsIntegerContent}
+use Rattle.x690.specs.Integers.{HasRedundantZeros, HasRedundantOnes, IsShortestInteger, IsIntegerContent}
 use Rattle.x690.specs.Signed.{IsSigned}
 use Rattle.asn1_headers.specs.declared.error.Error.{Error}
 use Rattle.asn1_headers.specs.declared.error.Error.TheVariants.{UnexpectedTag, ConstructUnexpected}
@@ -35,8 +35,8 @@ abbrev pub IntegerCheckRefuses : Parts → Error → Type 0
 IntegerCheckRefuses p ConstructUnexpected = p.id.constructed ≡ true
 IntegerCheckRefuses p IndefiniteLengthUnexpected = IsPrimitive p × (p.form ≡ indefinite)
 IntegerCheckRefuses p (DerConstraintFailed IntegerEmpty) = IsPrimitive p × IsCounted p × (p.content ≡ [])
-IntegerCheckRefuses p (DerConstraintFailed IntegerLeadingZeroes) = IsPrimitive p × IsCounted p × HasSpareZeros p.content
-IntegerCheckRefuses p (DerConstraintFailed IntegerLeadingFF) = IsPrimitive p × IsCounted p × HasSpareOnes p.content
+IntegerCheckRefuses p (DerConstraintFailed IntegerLeadingZeroes) = IsPrimitive p × IsCounted p × HasRedundantZeros p.content
+IntegerCheckRefuses p (DerConstraintFailed IntegerLeadingFF) = IsPrimitive p × IsCounted p × HasRedundantOnes p.content
 IntegerCheckRefuses p _ = ⊥
 
 -- What the constraints of an integer may answer.

@@ -32,5 +32,5 @@ pub mod Tagged
 pub mod Choices
 pub mod Structs
 pub mod Whole
-pub mod InHand
+pub mod AssertValid
 pub mod Writing

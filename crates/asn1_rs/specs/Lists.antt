@@ -7,7 +7,7 @@ use Rattle.std.specs.List.{All, Any as HasSome, concat}
 use Rattle.std.specs.Iterator.{Yields, AlwaysYields}
 use Rattle.x690.specs.Identifiers.{Identifier}
 use Rattle.x690.specs.Elements.{Parts, IsDerElement}
-use Rattle.x690.specs.Joined.{IsJoined}
+use Rattle.x690.specs.Joined.{IsConcatenation}
 use Rattle.x690.specs.Collections.{AsWords}
 use Rattle.asn1_headers.specs.declared.error.Err.{Err as Refusal}
 use Rattle.asn1_headers.specs.declared.error.Error.{Error}
@@ -24,14 +24,14 @@ use Rattle.asn1_rs.specs.Grammar.Item.{ItemGrammar, ber_words}
 use Rattle.asn1_headers.specs.Walk.{TakesItem}
 
 -- the octets are no joining of words of the grammar
-abbrev pub HasNoJoining : {V : Type 0} → (List ℕ → V → Type 0) → List ℕ → Type 0
-HasNoJoining {V} G octets = (values : List V) → IsJoined G octets values → ⊥
+abbrev pub HasNoConcatenation : {V : Type 0} → (List ℕ → V → Type 0) → List ℕ → Type 0
+HasNoConcatenation {V} G octets = (values : List V) → IsConcatenation G octets values → ⊥
 
 -- An element of this shape, whose contents octets are words joined.
 pub record ShapedList {V : Type 0} (Shape : Parts → Type 0) (G : List ℕ → V → Type 0) (p : Parts)
     (vs : List V) : Type 0 where
   pub shape : Shape p
-  pub items : IsJoined G p.content vs
+  pub items : IsConcatenation G p.content vs
 
 -- the element has the tag number
 abbrev pub HasNumber : ℕ → Parts → Type 0
@@ -59,7 +59,7 @@ pub record ListCheck (number : ℕ) (Check : Parts → Type 0) (p : Parts) : Typ
   pub number_is : p.id.number ≡ number
   pub constructed : p.id.constructed ≡ true
   pub elements : List Parts
-  pub checked : IsJoined (CheckedElement Check) p.content elements
+  pub checked : IsConcatenation (CheckedElement Check) p.content elements
 
 -- the strict encodings of a grammar's values, as words
 abbrev pub StrictWord : {V : Type 0} → (V → Identifier → List ℕ → Type 0) → List ℕ → V → Type 0
@@ -67,7 +67,7 @@ StrictWord Form = AsWords (IsStrict Form)
 
 -- the strict parts of a list: universal, constructed, and the strict encodings of the items joined in their order
 abbrev pub ListForm : {V : Type 0} → ℕ → (V → Identifier → List ℕ → Type 0) → List V → Identifier → List ℕ → Type 0
-ListForm number Form = UniversalForm true number (λ vs c. IsJoined (StrictWord Form) c vs)
+ListForm number Form = UniversalForm true number (λ vs c. IsConcatenation (StrictWord Form) c vs)
 
 -- a constructed element with the tag number, or the refusal of the first of these that fails
 abbrev pub IsListOr : ℕ → CheckGives

@@ -4,7 +4,7 @@ use Rattle.std.specs.Prelude.{◌≡◌, ◌≢◌, ◌⊎◌, ℕ, Bool, true, 
 use Rattle.std.specs.Prelude.{if◌then◌else◌}
 use Rattle.std.specs.Option.{option_map}
 use Rattle.x690.specs.Octets.{IsOctets}
-use Rattle.x690.specs.Identifiers.{Identifier, IsCutIdentifier}
+use Rattle.x690.specs.Identifiers.{Identifier, IsTruncatedIdentifier}
 use Rattle.x690.specs.Lengths.{LengthForm}
 use Rattle.x690.specs.Rules.{Rule}
 use Rattle.x690.specs.Elements.{IsHeader}
@@ -76,15 +76,15 @@ ReadsNoneAtEnd {T} {E} reads =
 abbrev pub RefusesAsHeld : {T V E : Type 0} → (List ℕ → Result (List ℕ × Option T) (Refusal E) → Type 0) →
     (List ℕ → Result (List ℕ × T) (Refusal E) → Type 0) → (List ℕ → Type 0) → (List ℕ → V → Type 0) →
     (Refusal E → Type 0) → Type 0
-RefusesAsHeld {T} {V} {E} reads held IsCut G memory =
+RefusesAsHeld {T} {V} {E} reads held IsTruncated G memory =
     (octets : List ℕ) (r : Refusal E) → IsOctets octets → reads octets (Err r) →
-    held octets (Err r) × (memory r ⊎ IsFinal (IsCut octets) r G octets)
+    held octets (Err r) × (memory r ⊎ IsFinal (IsTruncated octets) r G octets)
 
 -- After a refusal no value is left out of more octets either of which the refusal speaks.
 abbrev pub StaysIn : {T E : Type 0} → (List ℕ → Type 0) → (List ℕ → Result (List ℕ × Option T) (Refusal E) → Type 0) →
     Type 0
 StaysIn {T} {E} LeftOut reads = (octets more : List ℕ) (r : Refusal E) → IsOctets octets → reads octets (Err r) →
-    Speaks (IsCutIdentifier octets) r more → LeftOut (octets ++ more) → ⊥
+    Speaks (IsTruncatedIdentifier octets) r more → LeftOut (octets ++ more) → ⊥
 
 -- the error tells of another tag number than the one that was expected
 abbrev pub is_of_another_tag : Error → Bool

@@ -1,7 +1,7 @@
 -- The words of callers' clauses, passed on from one place: what readers and writers are asked and answer, and what an
 -- author's records say. Declares nothing.
 pub use Rattle.std.specs.Prelude.{refl}
-pub use Rattle.x690.specs.Identifiers.{IsCutIdentifier}
+pub use Rattle.x690.specs.Identifiers.{IsTruncatedIdentifier}
 pub use Rattle.x690.specs.Octets.{IsOctets}
 pub use Rattle.asn1_headers.specs.Answers.{seen, Exactly, TellsMemory}
 pub use Rattle.asn1_headers.specs.Ber.{EndsWithin}

@@ -9,11 +9,11 @@ pub mod Members
 pub mod PartsOfRows
 pub mod Reading
 pub mod Types
-pub mod Untold
+pub mod AnyTag
 use Rattle.std.specs.Prelude.{◌≡◌, ◌⊎◌, ◌||◌, ◌&&◌, ℕ, Bool, true, false, IsTrue, List, [], ◌∷◌, ◌++◌}
 use Rattle.std.specs.Prelude.{Option, Some, None, Result, Ok, Err, nat_eq, not, MatchResult}
 use Rattle.std.specs.Option.{option_map}
-use Rattle.x690.specs.Identifiers.{Identifier, IsCutIdentifier}
+use Rattle.x690.specs.Identifiers.{Identifier, IsTruncatedIdentifier}
 use Rattle.x690.specs.Lengths.{LengthForm}
 use Rattle.x690.specs.Rules.{Rule, der_rule, ber_rule}
 use Rattle.x690.specs.Elements.{Parts, IsHeader}
@@ -53,9 +53,9 @@ words_by by_der G = G.Der
 words_by by_ber G = ber_words G
 
 -- the octets end where a refusal by them tells nothing of more octets
-abbrev pub IsCutBy : EncodingRules → List ℕ → Type 0
-IsCutBy by_der = IsCutIdentifier
-IsCutBy by_ber = EndsWithin
+abbrev pub IsTruncatedBy : EncodingRules → List ℕ → Type 0
+IsTruncatedBy by_der = IsTruncatedIdentifier
+IsTruncatedBy by_ber = EndsWithin
 
 -- The tag numbers that octets may begin with.
 
@@ -325,8 +325,8 @@ MadeOf row gives octets (Ok x) = gives octets (Ok (row x))
 MadeOf row gives octets (Err e) = gives octets (Err e)
 
 -- what nothing is said of
-abbrev pub Untold : {A T E : Type 0} → A → Result T E → Type 0
-Untold octets answer = Unit {0}
+abbrev pub Unspecified : {A T E : Type 0} → A → Result T E → Type 0
+Unspecified octets answer = Unit {0}
 
 -- What the conversion of an element to a struct may answer. It is the struct of its fields, or the refusal of the tag
 -- number, of the constructed bit, or of a field.

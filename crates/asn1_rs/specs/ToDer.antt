@@ -69,8 +69,8 @@ abbrev pub IsWritable : {S : Type 0} → Writing S → S → Type 0
 IsWritable w x = HasNone (w.count_refuses x) × HasNone (w.header_refuses x) × HasNone (w.content_refuses x)
 
 -- nothing is told of any value
-abbrev pub untold : {S : Type 0} → Writing S
-untold = record {
+abbrev pub unspecified : {S : Type 0} → Writing S
+unspecified = record {
   tells = λ _. ⊥;
   header = λ _. [];
   content = λ _. [];

@@ -14,9 +14,9 @@
 //! The others follow from these, and bounds name them.
 
 // kinds, and the readers and writers that follow from them
+pub use crate::kinds::assert_valid::{AlwaysDerBy, DerElement};
 pub use crate::kinds::collections::{CollectionKind, Once, Repeats, SequenceKind, SetKind};
 pub use crate::kinds::fields::{Fields, FieldsKind};
-pub use crate::kinds::in_hand::{AlwaysDerBy, DerElement};
 pub use crate::kinds::leaf::{ConvertsLeaf, LeafType};
 pub use crate::kinds::reading::{
     AnyForm, CheckBy, ConstructedForm, ElementReader, EncodingForm, FromAnyBy, FromDerBy,
@@ -32,13 +32,14 @@ pub use crate::structs::defaulted::DefaultOf;
 pub use crate::structs::field::{
     FieldIsDer, FieldType, ItemType, LawfulType, ReadsField, WritesField,
 };
+pub use crate::structs::flat::assert_valid::{
+    assert_valid1, assert_valid2, assert_valid3, assert_valid4, assert_valid5, assert_valid6,
+    assert_valid7, assert_valid8, assert_valid9, assert_valid10, assert_valid11, assert_valid12,
+    assert_valid13, assert_valid14, assert_valid15, assert_valid16,
+};
 pub use crate::structs::flat::in_der::{
     in_der1, in_der2, in_der3, in_der4, in_der5, in_der6, in_der7, in_der8, in_der9, in_der10,
     in_der11, in_der12, in_der13, in_der14, in_der15, in_der16,
-};
-pub use crate::structs::flat::in_hand::{
-    in_hand1, in_hand2, in_hand3, in_hand4, in_hand5, in_hand6, in_hand7, in_hand8, in_hand9,
-    in_hand10, in_hand11, in_hand12, in_hand13, in_hand14, in_hand15, in_hand16,
 };
 pub use crate::structs::flat::puts::{
     put1, put2, put3, put4, put5, put6, put7, put8, put9, put10, put11, put12, put13, put14, put15,
@@ -64,6 +65,11 @@ pub use crate::structs::{
 pub use crate::choices::arms::{
     ArmNumbers, Arms, Never, Or, OrTagged, OrUniversal, ReadsArms, TakesArms,
 };
+pub use crate::choices::checks::{ChecksArms, check_arms};
+pub use crate::choices::nested::OrChoice;
+pub use crate::choices::taken::TakesWhole;
+pub use crate::choices::taken_arm::{OrTaken, TakenArm};
+pub use crate::choices::told::{TellsArms, ToldChoice};
 pub use crate::choices::writing::UsesArm;
 pub use crate::choices::{
     ChecksChoice, ChoiceKind, ChoiceReader, LawfulChoice, OfArms, ReadsChoice, ReadsChoiceByBer,

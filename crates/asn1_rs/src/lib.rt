@@ -102,6 +102,7 @@ pub use crate::asn1_types::strings::kinds::{
 pub use crate::asn1_types::times::generalized_time::GeneralizedTime;
 pub use crate::asn1_types::times::utc_time::UtcTime;
 pub use crate::asn1_types::times::{ASN1DateTime, ASN1TimeZone};
+pub use crate::choices::boxed::Boxed;
 pub use crate::structs::defaulted::{DefaultFalse, Defaulted};
 pub use x690::times::text::ShownText;
 

@@ -142,44 +142,44 @@ macro_rules! put_fields {
     };
 }
 
-/// The body of `row_in_hand`.
+/// The body of `assert_row_valid`.
 ///
-///     fields_in_hand!(self => place, value, error)
+///     assert_fields_valid!(self => place, value, error)
 #[macro_export]
-macro_rules! fields_in_hand {
+macro_rules! assert_fields_valid {
     ($x:expr => $a:ident $(,)?) => {
-        $crate::author::in_hand1(&$x.$a)
+        $crate::author::assert_valid1(&$x.$a)
     };
     ($x:expr => $a:ident, $b:ident $(,)?) => {
-        $crate::author::in_hand2(&$x.$a, &$x.$b)
+        $crate::author::assert_valid2(&$x.$a, &$x.$b)
     };
     ($x:expr => $a:ident, $b:ident, $c:ident $(,)?) => {
-        $crate::author::in_hand3(&$x.$a, &$x.$b, &$x.$c)
+        $crate::author::assert_valid3(&$x.$a, &$x.$b, &$x.$c)
     };
     ($x:expr => $a:ident, $b:ident, $c:ident, $d:ident $(,)?) => {
-        $crate::author::in_hand4(&$x.$a, &$x.$b, &$x.$c, &$x.$d)
+        $crate::author::assert_valid4(&$x.$a, &$x.$b, &$x.$c, &$x.$d)
     };
     ($x:expr => $a:ident, $b:ident, $c:ident, $d:ident, $e:ident $(,)?) => {
-        $crate::author::in_hand5(&$x.$a, &$x.$b, &$x.$c, &$x.$d, &$x.$e)
+        $crate::author::assert_valid5(&$x.$a, &$x.$b, &$x.$c, &$x.$d, &$x.$e)
     };
     ($x:expr => $a:ident, $b:ident, $c:ident, $d:ident, $e:ident, $f:ident $(,)?) => {
-        $crate::author::in_hand6(&$x.$a, &$x.$b, &$x.$c, &$x.$d, &$x.$e, &$x.$f)
+        $crate::author::assert_valid6(&$x.$a, &$x.$b, &$x.$c, &$x.$d, &$x.$e, &$x.$f)
     };
     ($x:expr => $a:ident, $b:ident, $c:ident, $d:ident, $e:ident, $f:ident, $g:ident $(,)?) => {
-        $crate::author::in_hand7(&$x.$a, &$x.$b, &$x.$c, &$x.$d, &$x.$e, &$x.$f, &$x.$g)
+        $crate::author::assert_valid7(&$x.$a, &$x.$b, &$x.$c, &$x.$d, &$x.$e, &$x.$f, &$x.$g)
     };
     (
         $x:expr =>
         $a:ident, $b:ident, $c:ident, $d:ident, $e:ident, $f:ident, $g:ident, $h:ident $(,)?
     ) => {
-        $crate::author::in_hand8(&$x.$a, &$x.$b, &$x.$c, &$x.$d, &$x.$e, &$x.$f, &$x.$g, &$x.$h)
+        $crate::author::assert_valid8(&$x.$a, &$x.$b, &$x.$c, &$x.$d, &$x.$e, &$x.$f, &$x.$g, &$x.$h)
     };
     (
         $x:expr =>
         $a:ident, $b:ident, $c:ident, $d:ident, $e:ident, $f:ident, $g:ident, $h:ident,
         $i:ident $(,)?
     ) => {
-        $crate::author::in_hand9(
+        $crate::author::assert_valid9(
             &$x.$a, &$x.$b, &$x.$c, &$x.$d, &$x.$e, &$x.$f, &$x.$g, &$x.$h, &$x.$i
         )
     };
@@ -188,7 +188,7 @@ macro_rules! fields_in_hand {
         $a:ident, $b:ident, $c:ident, $d:ident, $e:ident, $f:ident, $g:ident, $h:ident, $i:ident,
         $j:ident $(,)?
     ) => {
-        $crate::author::in_hand10(
+        $crate::author::assert_valid10(
             &$x.$a, &$x.$b, &$x.$c, &$x.$d, &$x.$e, &$x.$f, &$x.$g, &$x.$h, &$x.$i, &$x.$j
         )
     };
@@ -197,7 +197,7 @@ macro_rules! fields_in_hand {
         $a:ident, $b:ident, $c:ident, $d:ident, $e:ident, $f:ident, $g:ident, $h:ident, $i:ident,
         $j:ident, $k:ident $(,)?
     ) => {
-        $crate::author::in_hand11(
+        $crate::author::assert_valid11(
             &$x.$a, &$x.$b, &$x.$c, &$x.$d, &$x.$e, &$x.$f, &$x.$g, &$x.$h, &$x.$i, &$x.$j, &$x.$k
         )
     };
@@ -206,7 +206,7 @@ macro_rules! fields_in_hand {
         $a:ident, $b:ident, $c:ident, $d:ident, $e:ident, $f:ident, $g:ident, $h:ident, $i:ident,
         $j:ident, $k:ident, $l:ident $(,)?
     ) => {
-        $crate::author::in_hand12(
+        $crate::author::assert_valid12(
             &$x.$a, &$x.$b, &$x.$c, &$x.$d, &$x.$e, &$x.$f, &$x.$g, &$x.$h, &$x.$i, &$x.$j, &$x.$k,
             &$x.$l
         )
@@ -216,7 +216,7 @@ macro_rules! fields_in_hand {
         $a:ident, $b:ident, $c:ident, $d:ident, $e:ident, $f:ident, $g:ident, $h:ident, $i:ident,
         $j:ident, $k:ident, $l:ident, $m:ident $(,)?
     ) => {
-        $crate::author::in_hand13(
+        $crate::author::assert_valid13(
             &$x.$a, &$x.$b, &$x.$c, &$x.$d, &$x.$e, &$x.$f, &$x.$g, &$x.$h, &$x.$i, &$x.$j, &$x.$k,
             &$x.$l, &$x.$m
         )
@@ -226,7 +226,7 @@ macro_rules! fields_in_hand {
         $a:ident, $b:ident, $c:ident, $d:ident, $e:ident, $f:ident, $g:ident, $h:ident, $i:ident,
         $j:ident, $k:ident, $l:ident, $m:ident, $n:ident $(,)?
     ) => {
-        $crate::author::in_hand14(
+        $crate::author::assert_valid14(
             &$x.$a, &$x.$b, &$x.$c, &$x.$d, &$x.$e, &$x.$f, &$x.$g, &$x.$h, &$x.$i, &$x.$j, &$x.$k,
             &$x.$l, &$x.$m, &$x.$n
         )
@@ -236,7 +236,7 @@ macro_rules! fields_in_hand {
         $a:ident, $b:ident, $c:ident, $d:ident, $e:ident, $f:ident, $g:ident, $h:ident, $i:ident,
         $j:ident, $k:ident, $l:ident, $m:ident, $n:ident, $o:ident $(,)?
     ) => {
-        $crate::author::in_hand15(
+        $crate::author::assert_valid15(
             &$x.$a, &$x.$b, &$x.$c, &$x.$d, &$x.$e, &$x.$f, &$x.$g, &$x.$h, &$x.$i, &$x.$j, &$x.$k,
             &$x.$l, &$x.$m, &$x.$n, &$x.$o
         )
@@ -246,7 +246,7 @@ macro_rules! fields_in_hand {
         $a:ident, $b:ident, $c:ident, $d:ident, $e:ident, $f:ident, $g:ident, $h:ident, $i:ident,
         $j:ident, $k:ident, $l:ident, $m:ident, $n:ident, $o:ident, $p:ident $(,)?
     ) => {
-        $crate::author::in_hand16(
+        $crate::author::assert_valid16(
             &$x.$a, &$x.$b, &$x.$c, &$x.$d, &$x.$e, &$x.$f, &$x.$g, &$x.$h, &$x.$i, &$x.$j, &$x.$k,
             &$x.$l, &$x.$m, &$x.$n, &$x.$o, &$x.$p
         )

@@ -4,7 +4,7 @@ ghost use Rattle.std.specs.Io.KnownBytes.{Appends};
 ghost use Rattle.asn1_headers.specs.Writer.{Wrote};
 ghost use Rattle.asn1_headers.specs.Prepended.{Prepended};
 ghost use Rattle.asn1_headers.specs.declared.error.SerializeError.TheVariants as serialize_errors;
-ghost use Rattle.asn1_rs.specs.ToDer.{untold, Refuses, RefusesCount, VectorRefuses, IsRefusedAtOnce, RefusedAtOnce};
+ghost use Rattle.asn1_rs.specs.ToDer.{unspecified, Refuses, RefusesCount, VectorRefuses, IsRefusedAtOnce, RefusedAtOnce};
 ghost use Rattle.asn1_rs.specs.ToDer.{KeepsOrMayRefuse, Writing, whole_allocates, whole_octets, whole_refuses};
 ghost use Rattle.asn1_headers.specs.Error.{vector_refusal, tells_of_io};
 ghost use Rattle.asn1_headers.specs.declared.error.SerializeError.{SerializeError};
@@ -27,7 +27,7 @@ pub trait ToDer: DynTagged {
     ///
     /// A value with a refusal of its counts is neither counted nor written. Of one with a refusal of its header nothing
     /// is appended. Of one with a refusal of its contents octets a beginning of the encoding may be.
-    ghost writing: { Writing Self } = { untold };
+    ghost writing: { Writing Self } = { unspecified };
 
     /// The raw form is the DER form.
     ghost raw_is_der: { Self → Type 0 } = { λ _. Unit {0} };

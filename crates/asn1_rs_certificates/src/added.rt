@@ -66,9 +66,9 @@ impl BorrowedRow for AddedOf<'_, '_> {
         (&signed.issuer_unique_id, others).put_each(fields)
     }
 
-    fn each_in_hand(&self) {
+    fn assert_each_valid(&self) {
         let signed = self.0;
         let others = (&signed.subject_unique_id, (&signed.extensions, ()));
-        (&signed.issuer_unique_id, others).each_in_hand()
+        (&signed.issuer_unique_id, others).assert_each_valid()
     }
 }

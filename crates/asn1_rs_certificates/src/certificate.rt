@@ -8,7 +8,7 @@ use asn1_rs::author::{
 };
 use asn1_rs::laws::Grammar;
 use asn1_rs::{
-    BitString, DerParser, Error, FromDer, ParseResult, SerializeResult, ToDer, fields_in_hand,
+    BitString, DerParser, Error, FromDer, ParseResult, SerializeResult, ToDer, assert_fields_valid,
     put_fields, read_der, read_der_whole, read_fields, strict_vec,
 };
 use asn1_rs_messages::AlgorithmIdentifier;
@@ -46,8 +46,8 @@ impl<'a> LawfulStruct for Certificate<'a> {
         put_fields!(self, fields => tbs_certificate, signature_algorithm, signature_value)
     }
 
-    fn row_in_hand(&self) {
-        fields_in_hand!(self => tbs_certificate, signature_algorithm, signature_value)
+    fn assert_row_valid(&self) {
+        assert_fields_valid!(self => tbs_certificate, signature_algorithm, signature_value)
     }
 }
 

@@ -66,9 +66,9 @@ impl BorrowedRow for HolderOf<'_, '_> {
         (&signed.validity, (&signed.subject, key)).put_each(fields)
     }
 
-    fn each_in_hand(&self) {
+    fn assert_each_valid(&self) {
         let signed = self.0;
         let key = (&signed.subject_public_key_info, AddedOf(signed));
-        (&signed.validity, (&signed.subject, key)).each_in_hand()
+        (&signed.validity, (&signed.subject, key)).assert_each_valid()
     }
 }

@@ -8,7 +8,8 @@ use asn1_rs::author::{
     StructReader,
 };
 use asn1_rs::{
-    Any, DerParser, Error, Oid, SerializeResult, SetOf, fields_in_hand, put_fields, read_fields,
+    Any, DerParser, Error, Oid, SerializeResult, SetOf, assert_fields_valid, put_fields,
+    read_fields,
 };
 use std::alloc::Global;
 
@@ -47,8 +48,8 @@ impl<'a> LawfulStruct for Attribute<'a> {
         put_fields!(self, fields => kind, value)
     }
 
-    fn row_in_hand(&self) {
-        fields_in_hand!(self => kind, value)
+    fn assert_row_valid(&self) {
+        assert_fields_valid!(self => kind, value)
     }
 }
 

@@ -101,9 +101,9 @@ impl<'a> LawfulStruct for TbsCertificate<'a> {
         (&self.version, (&self.serial_number, signer)).put_each(fields)
     }
 
-    fn row_in_hand(&self) {
+    fn assert_row_valid(&self) {
         let signer = (&self.signature, (&self.issuer, HolderOf(self)));
-        (&self.version, (&self.serial_number, signer)).each_in_hand()
+        (&self.version, (&self.serial_number, signer)).assert_each_valid()
     }
 }
 

@@ -98,10 +98,10 @@ impl BorrowedRow for AskedOf<'_, '_> {
         (&body.rtime, (&body.nonce, others)).put_each(fields)
     }
 
-    fn each_in_hand(&self) {
+    fn assert_each_valid(&self) {
         let body = self.0;
         let added = (&body.enc_authorization_data, (&body.additional_tickets, ()));
         let others = (&body.etype, (&body.addresses, added));
-        (&body.rtime, (&body.nonce, others)).each_in_hand()
+        (&body.rtime, (&body.nonce, others)).assert_each_valid()
     }
 }

@@ -78,9 +78,9 @@ impl<'a> LawfulStruct for KdcReqBody<'a> {
         (&self.kdc_options, (&self.cname, (&self.realm, timed))).put_each(fields)
     }
 
-    fn row_in_hand(&self) {
+    fn assert_row_valid(&self) {
         let timed = (&self.sname, (&self.from, (&self.till, AskedOf(self))));
-        (&self.kdc_options, (&self.cname, (&self.realm, timed))).each_in_hand()
+        (&self.kdc_options, (&self.cname, (&self.realm, timed))).assert_each_valid()
     }
 }
 

@@ -7,7 +7,7 @@ use asn1_rs::author::{
     StructReader,
 };
 use asn1_rs::{
-    DerParser, Error, OctetString, SerializeResult, fields_in_hand, put_fields, read_fields,
+    DerParser, Error, OctetString, SerializeResult, assert_fields_valid, put_fields, read_fields,
 };
 use std::alloc::Global;
 
@@ -41,8 +41,8 @@ impl<'a> LawfulStruct for PaData<'a> {
         put_fields!(self, fields => padata_type, padata_value)
     }
 
-    fn row_in_hand(&self) {
-        fields_in_hand!(self => padata_type, padata_value)
+    fn assert_row_valid(&self) {
+        assert_fields_valid!(self => padata_type, padata_value)
     }
 }
 
@@ -85,8 +85,8 @@ impl<'a> LawfulStruct for HostAddress<'a> {
         put_fields!(self, fields => addr_type, address)
     }
 
-    fn row_in_hand(&self) {
-        fields_in_hand!(self => addr_type, address)
+    fn assert_row_valid(&self) {
+        assert_fields_valid!(self => addr_type, address)
     }
 }
 
@@ -135,8 +135,8 @@ impl<'a> LawfulStruct for EncryptedData<'a> {
         put_fields!(self, fields => etype, kvno, cipher)
     }
 
-    fn row_in_hand(&self) {
-        fields_in_hand!(self => etype, kvno, cipher)
+    fn assert_row_valid(&self) {
+        assert_fields_valid!(self => etype, kvno, cipher)
     }
 }
 

@@ -7,7 +7,7 @@ use asn1_rs::author::{
     StructReader,
 };
 use asn1_rs::{
-    DerParser, Error, GeneralString, SerializeResult, fields_in_hand, put_fields, read_fields,
+    DerParser, Error, GeneralString, SerializeResult, assert_fields_valid, put_fields, read_fields,
 };
 use std::alloc::Global;
 
@@ -41,8 +41,8 @@ impl<'a> LawfulStruct for PrincipalName<'a> {
         put_fields!(self, fields => name_type, name_string)
     }
 
-    fn row_in_hand(&self) {
-        fields_in_hand!(self => name_type, name_string)
+    fn assert_row_valid(&self) {
+        assert_fields_valid!(self => name_type, name_string)
     }
 }
 

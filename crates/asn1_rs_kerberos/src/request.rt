@@ -11,7 +11,7 @@ use asn1_rs::author::{
 use asn1_rs::laws::Grammar;
 use asn1_rs::{
     ApplicationExplicit, DerParser, Error, ParseResult, SerializeResult, Tag, ToDer,
-    fields_in_hand, put_fields, read_der, read_fields, strict_vec,
+    assert_fields_valid, put_fields, read_der, read_fields, strict_vec,
 };
 use std::alloc::Global;
 
@@ -57,8 +57,8 @@ impl<'a> LawfulStruct for KdcReq<'a> {
         put_fields!(self, fields => pvno, msg_type, padata, req_body)
     }
 
-    fn row_in_hand(&self) {
-        fields_in_hand!(self => pvno, msg_type, padata, req_body)
+    fn assert_row_valid(&self) {
+        assert_fields_valid!(self => pvno, msg_type, padata, req_body)
     }
 }
 

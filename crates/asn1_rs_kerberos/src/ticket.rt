@@ -7,7 +7,7 @@ use asn1_rs::author::{
     StructReader,
 };
 use asn1_rs::{
-    ApplicationExplicit, DerParser, Error, GeneralString, SerializeResult, fields_in_hand,
+    ApplicationExplicit, DerParser, Error, GeneralString, SerializeResult, assert_fields_valid,
     put_fields, read_fields,
 };
 use std::alloc::Global;
@@ -54,8 +54,8 @@ impl<'a> LawfulStruct for TicketFields<'a> {
         put_fields!(self, fields => tkt_vno, realm, sname, enc_part)
     }
 
-    fn row_in_hand(&self) {
-        fields_in_hand!(self => tkt_vno, realm, sname, enc_part)
+    fn assert_row_valid(&self) {
+        assert_fields_valid!(self => tkt_vno, realm, sname, enc_part)
     }
 }
 

@@ -16,11 +16,11 @@ use Rattle.asn1_rs.specs.Laws.OctetString.{octet_string_lawful}
 use Rattle.asn1_rs.specs.OctetString.{octet_string_leaf}
 use Rattle.asn1_rs.specs.Structs.Data.{LawfulStructOf, LawfulTypeOf}
 use Rattle.asn1_rs.specs.Structs.Types.{explicit_type, implicit_type, leaf_type, multiset_type}
-use Rattle.asn1_rs_choices.specs.Heap.{boxed}
-use Rattle.asn1_rs_choices.specs.Parts.Data.{choice_before}
-use Rattle.asn1_rs_choices.specs.declared.arms.OrChoice.{OrChoice}
-use Rattle.asn1_rs_choices.specs.declared.arms.OrChoice.TheVariants as part
-use Rattle.asn1_rs_choices.specs.declared.boxed.Boxed.{Boxed}
+use Rattle.asn1_rs.specs.Choices.Heap.{boxed}
+use Rattle.asn1_rs.specs.Choices.Nested.Data.{choice_before}
+use Rattle.asn1_rs.specs.declared.choices.nested.OrChoice.{OrChoice}
+use Rattle.asn1_rs.specs.declared.choices.nested.OrChoice.TheVariants as part
+use Rattle.asn1_rs.specs.declared.choices.boxed.Boxed.{Boxed}
 use Rattle.asn1_rs_ldap.specs.contracts.assertion.AttributeValueAssertionLawfulStruct.TheImpl as value_assertion
 use Rattle.asn1_rs_ldap.specs.contracts.assertion.MatchingRuleAssertionLawfulStruct.TheImpl as rule_assertion
 use Rattle.asn1_rs_ldap.specs.contracts.substrings.SubstringFilterLawfulStruct.TheImpl as substring_filter

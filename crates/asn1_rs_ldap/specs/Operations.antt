@@ -13,8 +13,8 @@ use Rattle.asn1_rs.specs.Laws.Null.{null_lawful}
 use Rattle.asn1_rs.specs.Null.{null_leaf}
 use Rattle.asn1_rs.specs.Structs.Data.{LawfulTypeOf}
 use Rattle.asn1_rs.specs.Structs.Types.{implicit_type, leaf_type, unsigned_type}
-use Rattle.asn1_rs_choices.specs.Within.{arms_within}
-use Rattle.asn1_rs_choices.specs.declared.taken_arm.OrTaken.{OrTaken}
+use Rattle.asn1_rs.specs.Choices.Within.{arms_within}
+use Rattle.asn1_rs.specs.declared.choices.taken_arm.OrTaken.{OrTaken}
 use Rattle.asn1_rs_ldap.specs.Searches.{search_laws}
 use Rattle.asn1_rs_ldap.specs.declared.search.SearchRequest.{SearchRequest}
 use Rattle.asn1_rs_ldap.specs.declared.operation.OfOperations.{OfOperations}

@@ -11,7 +11,7 @@ use asn1_rs::author::{
     ReadsRow, Row, Row2, StructReader, row_by_ber,
 };
 use asn1_rs::{
-    BerParser, Defaulted, Error, OctetString, SerializeResult, TaggedImplicit, fields_in_hand,
+    BerParser, Defaulted, Error, OctetString, SerializeResult, TaggedImplicit, assert_fields_valid,
     put_fields, read_fields,
 };
 use std::alloc::Global;
@@ -46,8 +46,8 @@ impl<'a> LawfulStruct for AttributeValueAssertion<'a> {
         put_fields!(self, fields => attribute, value)
     }
 
-    fn row_in_hand(&self) {
-        fields_in_hand!(self => attribute, value)
+    fn assert_row_valid(&self) {
+        assert_fields_valid!(self => attribute, value)
     }
 }
 
@@ -121,8 +121,8 @@ impl<'a> LawfulStruct for MatchingRuleAssertion<'a> {
         (&self.rule, (&self.attribute, ComparedValueOf(self))).put_each(fields)
     }
 
-    fn row_in_hand(&self) {
-        (&self.rule, (&self.attribute, ComparedValueOf(self))).each_in_hand()
+    fn assert_row_valid(&self) {
+        (&self.rule, (&self.attribute, ComparedValueOf(self))).assert_each_valid()
     }
 }
 

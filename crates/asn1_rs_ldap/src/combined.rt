@@ -1,15 +1,15 @@
 //! Filters that hold others, as a part of the choice of filters.
 ghost use Rattle.asn1_rs.specs.Prelude.{choice_numbers, numbers_of_choice};
-ghost use Rattle.asn1_rs_choices.specs.Parts.Data.{arm_of_choice};
+ghost use Rattle.asn1_rs.specs.Choices.Nested.Data.{arm_of_choice};
 ghost use Rattle.asn1_rs_ldap.specs.Filters.{combined_laws, in_combined_arms};
 ghost use Rattle.asn1_rs_ldap.specs.declared.combined.Combined.TheVariants as combined;
 
 use asn1_rs::author::{
     ArmNumbers, ChecksChoice, ChoiceKind, ChoiceReader, HasKind, HasReader, LawfulChoice, Never,
-    OfArms, Or, OrTagged, ReadsChoiceByBer, ToldByNumber, UsesArm, choice_of_element,
+    OfArms, Or, OrTagged, ReadsChoiceByBer, TellsArms, ToldByNumber, ToldChoice, UsesArm,
+    check_arms, choice_of_element,
 };
-use asn1_rs::{Any, Class, DynTagged, Error, SetOf, Tag, TaggedExplicit, TaggedImplicit};
-use asn1_rs_choices::{Boxed, TellsArms, ToldChoice, check_arms};
+use asn1_rs::{Any, Boxed, Class, DynTagged, Error, SetOf, Tag, TaggedExplicit, TaggedImplicit};
 use std::alloc::Global;
 
 /// Filters in a set, in place of whose tag a context-specific one stands.

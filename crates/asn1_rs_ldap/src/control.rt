@@ -7,7 +7,7 @@ use asn1_rs::author::{
     StructReader,
 };
 use asn1_rs::{
-    BerParser, DefaultFalse, Defaulted, Error, OctetString, SerializeResult, fields_in_hand,
+    BerParser, DefaultFalse, Defaulted, Error, OctetString, SerializeResult, assert_fields_valid,
     put_fields, read_fields,
 };
 use std::alloc::Global;
@@ -48,8 +48,8 @@ impl<'a> LawfulStruct for Control<'a> {
         put_fields!(self, fields => control_type, criticality, value)
     }
 
-    fn row_in_hand(&self) {
-        fields_in_hand!(self => control_type, criticality, value)
+    fn assert_row_valid(&self) {
+        assert_fields_valid!(self => control_type, criticality, value)
     }
 }
 

@@ -16,13 +16,13 @@ use crate::compared::Compared;
 use crate::matched::Matched;
 use asn1_rs::author::{
     ArmNumbers, ChecksChoice, ChoiceKind, ChoiceReader, HasKind, HasReader, LawfulChoice,
-    LawfulType, Never, OfArms, ReadsChoiceByBer, ToldByNumber, UsesArm, choice_of_element,
+    LawfulType, Never, OfArms, OrChoice, ReadsChoiceByBer, TakesWhole, ToldByNumber, UsesArm,
+    check_arms, choice_of_element,
 };
 use asn1_rs::laws::Grammar;
 use asn1_rs::{
     Any, DynTagged, Error, ParseResult, SerializeResult, Tag, ToDer, read_ber, strict_vec,
 };
-use asn1_rs_choices::{OrChoice, TakesWhole, check_arms};
 use std::alloc::Global;
 
 /// A filter that holds filters of the type `F`.
@@ -107,7 +107,7 @@ impl<'a, F> ReadsChoiceByBer<'a> for FilterOf<'a, F>
 where
     F: ReadsChoiceByBer<'a> + ChecksChoice + Drop,
 {
-    #[tactic(auto, using(asn1_rs_choices::specs::Taken::taken_as, asn1_rs_choices::specs::Taken::refused_as), unfolding(crate::specs::Filters::filter_laws))]
+    #[tactic(auto, using(asn1_rs::specs::Choices::Taken::taken_as, asn1_rs::specs::Choices::Taken::refused_as), unfolding(crate::specs::Filters::filter_laws))]
     fn choice_of_any(alloc: Global, any: Any<'a>) -> Result<FilterOf<'a, F>, Error> {
         match <FilterArms<'a, F> as TakesWhole<'a>>::take_any(alloc, any) {
             Ok(arms) => Ok(<FilterOf<'a, F> as OfArms>::of_arms(arms)),

@@ -8,10 +8,10 @@ ghost use Rattle.asn1_rs_ldap.specs.declared.matched.Matched.TheVariants as matc
 use crate::{MatchingRuleAssertion, Octets, SubstringFilter};
 use asn1_rs::author::{
     ArmNumbers, ChecksChoice, ChoiceKind, ChoiceReader, HasKind, HasReader, LawfulChoice, Never,
-    OfArms, Or, OrTagged, ReadsChoiceByBer, ToldByNumber, UsesArm, choice_of_element,
+    OfArms, Or, OrTagged, ReadsChoiceByBer, TellsArms, ToldByNumber, ToldChoice, UsesArm,
+    check_arms, choice_of_element,
 };
 use asn1_rs::{Any, Class, DynTagged, Error, Tag, TaggedImplicit};
-use asn1_rs_choices::{TellsArms, ToldChoice, check_arms};
 use std::alloc::Global;
 
 /// A filter of parts of a value, in place of whose tag another stands.

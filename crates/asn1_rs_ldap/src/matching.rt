@@ -61,8 +61,8 @@ impl BorrowedRow for ComparedValueOf<'_, '_> {
         (&assertion.value, (&assertion.dn_attributes, ())).put_each(fields)
     }
 
-    fn each_in_hand(&self) {
+    fn assert_each_valid(&self) {
         let assertion = self.0;
-        (&assertion.value, (&assertion.dn_attributes, ())).each_in_hand()
+        (&assertion.value, (&assertion.dn_attributes, ())).assert_each_valid()
     }
 }

@@ -10,8 +10,8 @@ use asn1_rs::author::{
 };
 use asn1_rs::laws::Grammar;
 use asn1_rs::{
-    BerParser, Error, FromBer, ParseResult, SerializeResult, TaggedImplicit, ToDer, fields_in_hand,
-    put_fields, read_ber, read_ber_whole, read_fields, strict_vec,
+    BerParser, Error, FromBer, ParseResult, SerializeResult, TaggedImplicit, ToDer,
+    assert_fields_valid, put_fields, read_ber, read_ber_whole, read_fields, strict_vec,
 };
 use std::alloc::Global;
 
@@ -50,8 +50,8 @@ impl<'a> LawfulStruct for Message<'a> {
         put_fields!(self, fields => id, operation, controls)
     }
 
-    fn row_in_hand(&self) {
-        fields_in_hand!(self => id, operation, controls)
+    fn assert_row_valid(&self) {
+        assert_fields_valid!(self => id, operation, controls)
     }
 }
 

@@ -3,19 +3,19 @@ ghost use Rattle.std.specs.Prelude.{◌≡◌};
 ghost use Rattle.asn1_rs.specs.Prelude.{choice_numbers, choice_type, is_one_of, numbers_of_choice, parts_of};
 ghost use Rattle.asn1_rs_ldap.specs.Operations.{in_operation_arms, operation_laws};
 ghost use Rattle.asn1_rs_ldap.specs.Searches.{search_laws};
-ghost use Rattle.asn1_rs_choices.specs.TaggedStructs.{ChecksTagged, TakesTagged, tagged_struct};
-ghost use Rattle.asn1_rs_choices.specs.TaggedStructs.{tagged_checks, tagged_exact, tagged_lawful, tagged_quiet};
+ghost use Rattle.asn1_rs.specs.Choices.TaggedStructs.{ChecksTagged, TakesTagged, tagged_struct};
+ghost use Rattle.asn1_rs.specs.Choices.TaggedStructs.{tagged_checks, tagged_exact, tagged_lawful, tagged_never_oom};
 ghost use Rattle.asn1_rs_ldap.specs.declared.operation.Operation.TheVariants as operations;
 
 use crate::search::SearchRequest;
 use asn1_rs::author::{
     ArmNumbers, ChoiceKind, ChoiceReader, HasKind, HasReader, LawfulChoice, LawfulType, Never,
-    OfArms, Or, ReadsChoiceByBer, ReadsFieldsByBer, ToldByNumber, UsesArm, choice_of_element,
+    OfArms, Or, OrTaken, ReadsChoiceByBer, ReadsFieldsByBer, TakenArm, ToldByNumber, UsesArm,
+    choice_of_element,
 };
 use asn1_rs::{
     Any, ApplicationImplicit, CheckDerConstraints, DynTagged, Error, FromAny, Null, Tag,
 };
-use asn1_rs_choices::{OrTaken, TakenArm};
 use std::alloc::Global;
 
 /// An operation of a client that searches.
@@ -139,7 +139,7 @@ impl<'a> TakenArm<'a, OfOperations> for Search<'a> {
     ghost exact = { tagged_exact 1 3 (λ t. t.inner) search_laws
         ⟦<SearchRequest<'a> as ReadsFieldsByBer<'a>>⟧.fields_give_by_ber };
 
-    ghost quiet = { tagged_quiet {W = Self} 1 3 (λ t. t.inner) search_laws
+    ghost never_oom = { tagged_never_oom {W = Self} 1 3 (λ t. t.inner) search_laws
         ⟦<SearchRequest<'a> as ReadsFieldsByBer<'a>>⟧.fields_give_by_ber };
 
     ghost checks = { tagged_checks {W = Self} 1 3 (λ t. t.inner) search_laws };

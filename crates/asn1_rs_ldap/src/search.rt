@@ -62,13 +62,13 @@ impl<'a> LawfulStruct for SearchRequest<'a> {
             .put_each(fields)
     }
 
-    fn row_in_hand(&self) {
+    fn assert_row_valid(&self) {
         let limits = (&self.size_limit, (&self.time_limit, WantedOf(self)));
         (
             &self.base_object,
             (&self.scope, (&self.deref_aliases, limits)),
         )
-            .each_in_hand()
+            .assert_each_valid()
     }
 }
 

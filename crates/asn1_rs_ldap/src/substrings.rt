@@ -10,7 +10,7 @@ use asn1_rs::author::{
     ReadsRow, Row, Row2, StructReader, UsesArm, choice_of_element,
 };
 use asn1_rs::{
-    Any, BerParser, DynTagged, Error, OctetString, SerializeResult, Tag, fields_in_hand,
+    Any, BerParser, DynTagged, Error, OctetString, SerializeResult, Tag, assert_fields_valid,
     put_fields, read_fields,
 };
 use std::alloc::Global;
@@ -135,8 +135,8 @@ impl<'a> LawfulStruct for SubstringFilter<'a> {
         put_fields!(self, fields => attribute, substrings)
     }
 
-    fn row_in_hand(&self) {
-        fields_in_hand!(self => attribute, substrings)
+    fn assert_row_valid(&self) {
+        assert_fields_valid!(self => attribute, substrings)
     }
 }
 

@@ -62,9 +62,9 @@ impl BorrowedRow for WantedOf<'_, '_> {
         (&search.types_only, filter).put_each(fields)
     }
 
-    fn each_in_hand(&self) {
+    fn assert_each_valid(&self) {
         let search = self.0;
         let filter = (&search.filter, (&search.attributes, ()));
-        (&search.types_only, filter).each_in_hand()
+        (&search.types_only, filter).assert_each_valid()
     }
 }

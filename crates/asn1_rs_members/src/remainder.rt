@@ -84,8 +84,8 @@ impl LeafType for Remainder {
 
     ghost exact = { valued_exact value (λ m n e. ap unsigned_octets e) };
 
-    fn leaf_in_hand(&self) {
-        self.0.leaf_in_hand();
+    fn assert_leaf_valid(&self) {
+        self.0.assert_leaf_valid();
     }
 
     fn check_leaf(any: &Any<'_>) -> Result<(), Error> {

@@ -2,7 +2,7 @@
 ghost use Rattle.asn1_rs.specs.Prelude.{refl, struct_of};
 
 use asn1_rs::author::{Fields, FieldsKind, HasKind, LawfulStruct, Row, Row2};
-use asn1_rs::{SerializeResult, fields_in_hand, put_fields};
+use asn1_rs::{SerializeResult, assert_fields_valid, put_fields};
 
 /// A level, before which a flag may stand.
 ///
@@ -29,7 +29,7 @@ impl LawfulStruct for Flagged {
         put_fields!(self, fields => flag, level)
     }
 
-    fn row_in_hand(&self) {
-        fields_in_hand!(self => flag, level)
+    fn assert_row_valid(&self) {
+        assert_fields_valid!(self => flag, level)
     }
 }

@@ -8,7 +8,7 @@ use asn1_rs::author::{
 use asn1_rs::laws::{AlwaysDer, Grammar};
 use asn1_rs::{
     BerParser, DerParser, Error, ParseResult, SerializeResult, TaggedExplicit, ToDer,
-    fields_in_der, fields_in_hand, put_fields, read_ber, read_der, read_fields, strict_vec,
+    assert_fields_valid, fields_in_der, put_fields, read_ber, read_der, read_fields, strict_vec,
 };
 use std::alloc::Global;
 
@@ -49,8 +49,8 @@ impl LawfulStruct for Alarm {
         put_fields!(self, fields => level, muted, urgent, rooms)
     }
 
-    fn row_in_hand(&self) {
-        fields_in_hand!(self => level, muted, urgent, rooms)
+    fn assert_row_valid(&self) {
+        assert_fields_valid!(self => level, muted, urgent, rooms)
     }
 }
 

@@ -9,7 +9,7 @@ use asn1_rs::author::{
 use asn1_rs::laws::Grammar;
 use asn1_rs::{
     Any, BerParser, DerParser, Error, Oid, ParseResult, SerializeResult, SetOf, TaggedExplicit,
-    ToDer, fields_in_hand, put_fields, read_ber, read_der, strict_vec,
+    ToDer, assert_fields_valid, put_fields, read_ber, read_der, strict_vec,
 };
 use std::alloc::Global;
 
@@ -46,8 +46,8 @@ impl<'a> LawfulStruct for ContentInfo<'a> {
         put_fields!(self, fields => content_type, content)
     }
 
-    fn row_in_hand(&self) {
-        fields_in_hand!(self => content_type, content)
+    fn assert_row_valid(&self) {
+        assert_fields_valid!(self => content_type, content)
     }
 }
 
@@ -113,8 +113,8 @@ impl<'a> LawfulStruct for Attribute<'a> {
         put_fields!(self, fields => attribute_type, values)
     }
 
-    fn row_in_hand(&self) {
-        fields_in_hand!(self => attribute_type, values)
+    fn assert_row_valid(&self) {
+        assert_fields_valid!(self => attribute_type, values)
     }
 }
 
@@ -138,6 +138,15 @@ impl<'a> ReadsFields<'a> for Attribute<'a> {
 
     fn read_fields(alloc: Global, octets: &'a [u8]) -> Result<Attribute<'a>, Error> {
         struct_by_der(alloc, octets)
+    }
+}
+
+impl<'a> ReadsFieldsByBer<'a> for Attribute<'a> {
+    ghost fields_give_by_ber = { MadeOf ⟦<Attribute<'a> as LawfulStruct>⟧.laws.as_row
+        ⟦<AttributeRow<'a> as ReadsRow<'a, BerParser>>⟧.row_gives };
+
+    fn read_fields_by_ber(alloc: Global, octets: &'a [u8]) -> Result<Attribute<'a>, Error> {
+        struct_by_ber(alloc, octets)
     }
 }
 
@@ -174,6 +183,16 @@ pub fn read_attribute<'a>(alloc: Global, octets: &'a [u8]) -> ParseResult<'a, At
     ensures { ReadsByDer ⟦<Attribute<'a> as Grammar>⟧.grammar octets.now (seen result) }
 {
     read_der::<Attribute<'a>, Error>(alloc, octets)
+}
+
+/// The attribute at the front of the octets, by BER, and what follows it.
+pub fn read_attribute_by_ber<'a>(
+    alloc: Global,
+    octets: &'a [u8],
+) -> ParseResult<'a, Attribute<'a>, Error>
+    ensures { ReadsByBer ⟦<Attribute<'a> as Grammar>⟧.grammar octets.now (seen result) }
+{
+    read_ber::<Attribute<'a>, Error>(alloc, octets)
 }
 
 /// The one strict encoding of an attribute in DER form. Where its length fits `usize`, it is refused only when out of

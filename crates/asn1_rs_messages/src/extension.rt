@@ -11,8 +11,8 @@ use asn1_rs::author::{
 use asn1_rs::laws::Grammar;
 use asn1_rs::{
     BerParser, DefaultFalse, Defaulted, DerParser, Error, OctetString, Oid, ParseResult,
-    SerializeResult, ToDer, ToStatic, fields_in_hand, put_fields, read_ber, read_der, read_fields,
-    strict_vec,
+    SerializeResult, ToDer, ToStatic, assert_fields_valid, put_fields, read_ber, read_der,
+    read_fields, strict_vec,
 };
 use std::alloc::Global;
 
@@ -48,8 +48,8 @@ impl<'a> LawfulStruct for Extension<'a> {
         put_fields!(self, fields => id, critical, value)
     }
 
-    fn row_in_hand(&self) {
-        fields_in_hand!(self => id, critical, value)
+    fn assert_row_valid(&self) {
+        assert_fields_valid!(self => id, critical, value)
     }
 }
 

@@ -14,7 +14,7 @@ use asn1_rs::author::{
 use asn1_rs::laws::Grammar;
 use asn1_rs::{
     Any, Defaulted, DerParser, Error, Integer, OctetString, Oid, ParseResult, SerializeResult,
-    ToDer, fields_in_hand, put_fields, read_der, strict_vec,
+    ToDer, assert_fields_valid, put_fields, read_der, strict_vec,
 };
 use std::alloc::Global;
 use std::borrow::CowSlice;
@@ -88,8 +88,8 @@ impl<'a> LawfulStruct for HashedCertificate<'a> {
         put_fields!(self, fields => algorithm, hash, issuer)
     }
 
-    fn row_in_hand(&self) {
-        fields_in_hand!(self => algorithm, hash, issuer)
+    fn assert_row_valid(&self) {
+        assert_fields_valid!(self => algorithm, hash, issuer)
     }
 }
 
@@ -150,8 +150,8 @@ impl<'a> LawfulStruct for IssuerSerial<'a> {
         put_fields!(self, fields => names, number)
     }
 
-    fn row_in_hand(&self) {
-        fields_in_hand!(self => names, number)
+    fn assert_row_valid(&self) {
+        assert_fields_valid!(self => names, number)
     }
 }
 

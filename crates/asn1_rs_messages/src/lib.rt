@@ -19,10 +19,10 @@ mod time;
 mod updates;
 mod validity;
 
-pub use alarm::{Alarm, AlarmRow, Muted, alarm_vec, read_alarm, read_alarm_by_ber};
+// of X.509, PKCS and CMS
 pub use content::{
     Attribute, AttributeRow, Content, ContentInfo, ContentRow, attribute_vec, content_vec,
-    read_attribute, read_content, read_content_by_ber,
+    read_attribute, read_attribute_by_ber, read_content, read_content_by_ber,
 };
 pub use extension::{
     Extension, ExtensionRow, extension_vec, kept_extension, read_extension, read_extension_by_ber,
@@ -30,13 +30,21 @@ pub use extension::{
 pub use hashed::{
     HashedCertificate, IssuerSerial, Sha256, hashed_certificate_vec, read_hashed_certificate,
 };
+pub use public_key::{
+    AlgorithmIdentifier, AlgorithmRow, PublicKeyRow, SubjectPublicKeyInfo, public_key_vec,
+    read_algorithm, read_algorithm_by_ber, read_public_key, read_public_key_by_ber,
+};
+pub use time::{
+    TaggedTime, Time, TimeArms, read_tagged_time, read_time, read_time_by_ber, read_time_set,
+    read_times, time_vec, times_vec,
+};
+pub use validity::{Validity, ValidityRow, read_validity, read_validity_by_ber, validity_vec};
+
+// each of which shows what a field or a choice may be
+pub use alarm::{Alarm, AlarmRow, Muted, alarm_vec, read_alarm, read_alarm_by_ber};
 pub use measurement::{
     Measurement, MeasurementRow, measurement_set_vec, measurement_vec, read_measurement,
     read_measurement_by_ber, read_measurement_set,
-};
-pub use public_key::{
-    AlgorithmIdentifier, AlgorithmRow, PublicKeyRow, SubjectPublicKeyInfo, public_key_vec,
-    read_algorithm, read_public_key,
 };
 pub use reminder::{
     Reminder, ReminderRow, TaggedReminder, read_reminder, read_reminder_by_ber, read_reminder_set,
@@ -49,9 +57,4 @@ pub use settings::{
 pub use signed::{Note, Signature, Signed, SignedRow, read_signed, read_signed_by_ber, signed_vec};
 pub use source::{Name, Place, Source, SourceArms, read_source, read_source_by_ber, source_vec};
 pub use survey::{Survey, SurveyRow, read_survey, read_survey_by_ber, survey_vec};
-pub use time::{
-    TaggedTime, Time, TimeArms, read_tagged_time, read_time, read_time_by_ber, read_time_set,
-    read_times, time_vec, times_vec,
-};
 pub use updates::{Updates, UpdatesRow, read_updates, read_updates_by_ber, updates_vec};
-pub use validity::{Validity, ValidityRow, read_validity, read_validity_by_ber, validity_vec};

@@ -8,8 +8,8 @@ use asn1_rs::author::{
 };
 use asn1_rs::laws::{AlwaysDer, Grammar, LawfulMember};
 use asn1_rs::{
-    BerParser, DerParser, Error, ParseResult, SerializeResult, ToDer, fields_in_der,
-    fields_in_hand, put_fields, read_ber, read_der, read_fields, strict_vec,
+    BerParser, DerParser, Error, ParseResult, SerializeResult, ToDer, assert_fields_valid,
+    fields_in_der, put_fields, read_ber, read_der, read_fields, strict_vec,
 };
 use std::alloc::Global;
 use std::collections::BTreeSet;
@@ -46,8 +46,8 @@ impl LawfulStruct for Measurement {
         put_fields!(self, fields => place, value, error)
     }
 
-    fn row_in_hand(&self) {
-        fields_in_hand!(self => place, value, error)
+    fn assert_row_valid(&self) {
+        assert_fields_valid!(self => place, value, error)
     }
 }
 

@@ -1,16 +1,16 @@
-//! The public key of a certificate and the algorithm that the key is for (RFC 5280, 4.1). Both are read by DER, and
+//! The public key of a certificate and the algorithm that the key is for (RFC 5280, 4.1). Both are read by both rules, and
 //! borrowed from the octets.
-ghost use Rattle.asn1_rs.specs.Prelude.{key_of, MadeOf, ReadsByDer, refl, seen, struct_members, struct_of};
+ghost use Rattle.asn1_rs.specs.Prelude.{key_of, MadeOf, ReadsByBer, ReadsByDer, refl, seen, struct_members, struct_of};
 ghost use Rattle.asn1_rs.specs.Prelude.{struct_type, WritesStrict};
 
 use asn1_rs::author::{
     Fields, FieldsKind, HasKind, HasReader, KeyType, LawfulStruct, MemberRow, ReadsFields,
-    ReadsRow, Row, Row2, StructReader,
+    ReadsFieldsByBer, ReadsRow, Row, Row2, StructReader,
 };
 use asn1_rs::laws::{Grammar, LawfulMember};
 use asn1_rs::{
-    Any, BitString, DerParser, Error, Oid, ParseResult, SerializeResult, ToDer, fields_in_hand,
-    put_fields, read_der, read_fields, strict_vec,
+    Any, BerParser, BitString, DerParser, Error, Oid, ParseResult, SerializeResult, ToDer,
+    assert_fields_valid, put_fields, read_ber, read_der, read_fields, strict_vec,
 };
 use std::alloc::Global;
 
@@ -44,8 +44,8 @@ impl<'a> LawfulStruct for AlgorithmIdentifier<'a> {
         put_fields!(self, fields => algorithm, parameters)
     }
 
-    fn row_in_hand(&self) {
-        fields_in_hand!(self => algorithm, parameters)
+    fn assert_row_valid(&self) {
+        assert_fields_valid!(self => algorithm, parameters)
     }
 }
 
@@ -55,6 +55,18 @@ impl<'a> ReadsFields<'a> for AlgorithmIdentifier<'a> {
 
     fn read_fields(alloc: Global, octets: &'a [u8]) -> Result<AlgorithmIdentifier<'a>, Error> {
         read_fields!(row_by_der, alloc, octets => AlgorithmIdentifier { algorithm, parameters })
+    }
+}
+
+impl<'a> ReadsFieldsByBer<'a> for AlgorithmIdentifier<'a> {
+    ghost fields_give_by_ber = { MadeOf ⟦<AlgorithmIdentifier<'a> as LawfulStruct>⟧.laws.as_row
+        ⟦<AlgorithmRow<'a> as ReadsRow<'a, BerParser>>⟧.row_gives };
+
+    fn read_fields_by_ber(
+        alloc: Global,
+        octets: &'a [u8],
+    ) -> Result<AlgorithmIdentifier<'a>, Error> {
+        read_fields!(row_by_ber, alloc, octets => AlgorithmIdentifier { algorithm, parameters })
     }
 }
 
@@ -100,8 +112,8 @@ impl<'a> LawfulStruct for SubjectPublicKeyInfo<'a> {
         put_fields!(self, fields => algorithm, subject_public_key)
     }
 
-    fn row_in_hand(&self) {
-        fields_in_hand!(self => algorithm, subject_public_key)
+    fn assert_row_valid(&self) {
+        assert_fields_valid!(self => algorithm, subject_public_key)
     }
 }
 
@@ -116,7 +128,19 @@ impl<'a> ReadsFields<'a> for SubjectPublicKeyInfo<'a> {
     }
 }
 
-/// The algorithm at the front of the octets, and what follows it.
+impl<'a> ReadsFieldsByBer<'a> for SubjectPublicKeyInfo<'a> {
+    ghost fields_give_by_ber = { MadeOf ⟦<SubjectPublicKeyInfo<'a> as LawfulStruct>⟧.laws.as_row
+        ⟦<PublicKeyRow<'a> as ReadsRow<'a, BerParser>>⟧.row_gives };
+
+    fn read_fields_by_ber(
+        alloc: Global,
+        octets: &'a [u8],
+    ) -> Result<SubjectPublicKeyInfo<'a>, Error> {
+        read_fields!(row_by_ber, alloc, octets => SubjectPublicKeyInfo { algorithm, subject_public_key })
+    }
+}
+
+/// The algorithm at the front of the octets, by DER, and what follows it.
 pub fn read_algorithm<'a>(
     alloc: Global,
     octets: &'a [u8],
@@ -126,7 +150,17 @@ pub fn read_algorithm<'a>(
     read_der::<AlgorithmIdentifier<'a>, Error>(alloc, octets)
 }
 
-/// The public key at the front of the octets, and what follows it.
+/// The algorithm at the front of the octets, by BER, and what follows it.
+pub fn read_algorithm_by_ber<'a>(
+    alloc: Global,
+    octets: &'a [u8],
+) -> ParseResult<'a, AlgorithmIdentifier<'a>, Error>
+    ensures { ReadsByBer ⟦<AlgorithmIdentifier<'a> as Grammar>⟧.grammar octets.now (seen result) }
+{
+    read_ber::<AlgorithmIdentifier<'a>, Error>(alloc, octets)
+}
+
+/// The public key at the front of the octets, by DER, and what follows it.
 pub fn read_public_key<'a>(
     alloc: Global,
     octets: &'a [u8],
@@ -134,6 +168,16 @@ pub fn read_public_key<'a>(
     ensures { ReadsByDer ⟦<SubjectPublicKeyInfo<'a> as Grammar>⟧.grammar octets.now (seen result) }
 {
     read_der::<SubjectPublicKeyInfo<'a>, Error>(alloc, octets)
+}
+
+/// The public key at the front of the octets, by BER, and what follows it.
+pub fn read_public_key_by_ber<'a>(
+    alloc: Global,
+    octets: &'a [u8],
+) -> ParseResult<'a, SubjectPublicKeyInfo<'a>, Error>
+    ensures { ReadsByBer ⟦<SubjectPublicKeyInfo<'a> as Grammar>⟧.grammar octets.now (seen result) }
+{
+    read_ber::<SubjectPublicKeyInfo<'a>, Error>(alloc, octets)
 }
 
 /// The one strict encoding of a public key in DER form. Where its length fits `usize`, it is refused only when out of

@@ -9,7 +9,7 @@ use asn1_rs::author::{
 use asn1_rs::laws::{AlwaysDer, Grammar};
 use asn1_rs::{
     BerParser, DefaultFalse, Defaulted, DerParser, Error, ParseResult, SerializeResult, SetOf,
-    TaggedImplicit, ToDer, fields_in_der, fields_in_hand, put_fields, read_ber, read_der,
+    TaggedImplicit, ToDer, assert_fields_valid, fields_in_der, put_fields, read_ber, read_der,
     read_fields, strict_vec,
 };
 use std::alloc::Global;
@@ -48,8 +48,8 @@ impl LawfulStruct for Reminder {
         put_fields!(self, fields => level, muted, urgent, rooms)
     }
 
-    fn row_in_hand(&self) {
-        fields_in_hand!(self => level, muted, urgent, rooms)
+    fn assert_row_valid(&self) {
+        assert_fields_valid!(self => level, muted, urgent, rooms)
     }
 }
 

@@ -11,8 +11,8 @@ use asn1_rs::author::{
 use asn1_rs::laws::Grammar;
 use asn1_rs::{
     BerParser, Defaulted, DerParser, Enumerated, Error, ParseResult, SerializeResult,
-    TaggedExplicit, TaggedImplicit, fields_in_der, fields_in_hand, put_fields, read_ber, read_der,
-    read_fields,
+    TaggedExplicit, TaggedImplicit, assert_fields_valid, fields_in_der, put_fields, read_ber,
+    read_der, read_fields,
 };
 use std::alloc::Global;
 
@@ -153,8 +153,8 @@ impl LawfulStruct for Settings {
         put_fields!(self, fields => version, offset, mode, rooms, limit)
     }
 
-    fn row_in_hand(&self) {
-        fields_in_hand!(self => version, offset, mode, rooms, limit)
+    fn assert_row_valid(&self) {
+        assert_fields_valid!(self => version, offset, mode, rooms, limit)
     }
 }
 

@@ -9,7 +9,8 @@ use asn1_rs::author::{
 use asn1_rs::laws::{Grammar, LawfulMember};
 use asn1_rs::{
     BerParser, DerParser, Error, Explicit, Implicit, OctetString, ParseResult, SerializeResult,
-    TaggedParser, ToDer, fields_in_hand, put_fields, read_ber, read_der, read_fields, strict_vec,
+    TaggedParser, ToDer, assert_fields_valid, put_fields, read_ber, read_der, read_fields,
+    strict_vec,
 };
 use std::alloc::Global;
 
@@ -52,8 +53,8 @@ impl<'a> LawfulStruct for Signed<'a> {
         put_fields!(self, fields => number, signature, note)
     }
 
-    fn row_in_hand(&self) {
-        fields_in_hand!(self => number, signature, note)
+    fn assert_row_valid(&self) {
+        assert_fields_valid!(self => number, signature, note)
     }
 }
 

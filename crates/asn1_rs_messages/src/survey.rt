@@ -9,7 +9,7 @@ use asn1_rs::author::{
 use asn1_rs::laws::Grammar;
 use asn1_rs::{
     BerParser, BmpString, Boolean, DerParser, Error, ParseResult, SerializeResult, ToDer,
-    fields_in_hand, put_fields, read_ber, read_der, read_fields, strict_vec,
+    assert_fields_valid, put_fields, read_ber, read_der, read_fields, strict_vec,
 };
 use std::alloc::Global;
 use std::collections::{BTreeSet, HashSet};
@@ -48,8 +48,8 @@ impl<'a> LawfulStruct for Survey<'a> {
         put_fields!(self, fields => station, finished, places, measurements)
     }
 
-    fn row_in_hand(&self) {
-        fields_in_hand!(self => station, finished, places, measurements)
+    fn assert_row_valid(&self) {
+        assert_fields_valid!(self => station, finished, places, measurements)
     }
 }
 

@@ -9,8 +9,8 @@ use asn1_rs::author::{
 };
 use asn1_rs::laws::Grammar;
 use asn1_rs::{
-    BerParser, DerParser, Error, ParseResult, SerializeResult, ToDer, fields_in_hand, put_fields,
-    read_ber, read_der, read_fields, strict_vec,
+    BerParser, DerParser, Error, ParseResult, SerializeResult, ToDer, assert_fields_valid,
+    put_fields, read_ber, read_der, read_fields, strict_vec,
 };
 use std::alloc::Global;
 
@@ -48,8 +48,8 @@ impl LawfulStruct for Updates {
         put_fields!(self, fields => this_update, next_update, earlier, last)
     }
 
-    fn row_in_hand(&self) {
-        fields_in_hand!(self => this_update, next_update, earlier, last)
+    fn assert_row_valid(&self) {
+        assert_fields_valid!(self => this_update, next_update, earlier, last)
     }
 }
 

@@ -8,8 +8,8 @@ use asn1_rs::author::{
 };
 use asn1_rs::laws::Grammar;
 use asn1_rs::{
-    BerParser, DerParser, Error, ParseResult, SerializeResult, ToDer, fields_in_hand, put_fields,
-    read_ber, read_der, read_fields, strict_vec,
+    BerParser, DerParser, Error, ParseResult, SerializeResult, ToDer, assert_fields_valid,
+    put_fields, read_ber, read_der, read_fields, strict_vec,
 };
 use std::alloc::Global;
 
@@ -43,8 +43,8 @@ impl LawfulStruct for Validity {
         put_fields!(self, fields => not_before, not_after)
     }
 
-    fn row_in_hand(&self) {
-        fields_in_hand!(self => not_before, not_after)
+    fn assert_row_valid(&self) {
+        assert_fields_valid!(self => not_before, not_after)
     }
 }
 

@@ -9,9 +9,9 @@ use Rattle.asn1_rs.specs.declared.choices.arms.Or.TheVariants as arm
 use Rattle.asn1_rs.specs.Choices.Data.{LawfulChoiceOf, arm_before, end_of_arms}
 use Rattle.asn1_rs.specs.Structs.Data.{LawfulStructOf, LawfulTypeOf, end_row, field_of, then_row}
 use Rattle.asn1_rs.specs.Structs.Types.{implicit_type, list_type, signed_type, unsigned_type}
-use Rattle.asn1_rs_choices.specs.Parts.Data.{choice_before}
-use Rattle.asn1_rs_choices.specs.declared.arms.OrChoice.{OrChoice}
-use Rattle.asn1_rs_choices.specs.declared.arms.OrChoice.TheVariants as part
+use Rattle.asn1_rs.specs.Choices.Nested.Data.{choice_before}
+use Rattle.asn1_rs.specs.declared.choices.nested.OrChoice.{OrChoice}
+use Rattle.asn1_rs.specs.declared.choices.nested.OrChoice.TheVariants as part
 use Rattle.asn1_rs_snmp.specs.Messages.{var_bind_laws}
 use Rattle.asn1_rs_snmp.specs.declared.notices.NoticePdus.{NoticePdus}
 use Rattle.asn1_rs_snmp.specs.declared.notices.NoticePdus.TheVariants as notices

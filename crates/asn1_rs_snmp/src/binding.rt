@@ -9,7 +9,7 @@ use asn1_rs::author::{
 };
 use asn1_rs::laws::Grammar;
 use asn1_rs::{
-    BerParser, Error, Oid, ParseResult, SerializeResult, ToDer, fields_in_hand, put_fields,
+    BerParser, Error, Oid, ParseResult, SerializeResult, ToDer, assert_fields_valid, put_fields,
     read_ber, read_ber_whole, read_fields, strict_vec,
 };
 use std::alloc::Global;
@@ -45,8 +45,8 @@ impl<'a> LawfulStruct for VarBind<'a> {
     }
 
     #[tactic(auto, unfolding(crate::specs::Messages::var_bind_laws))]
-    fn row_in_hand(&self) {
-        fields_in_hand!(self => name, value)
+    fn assert_row_valid(&self) {
+        assert_fields_valid!(self => name, value)
     }
 }
 

@@ -9,8 +9,8 @@ use asn1_rs::author::{
 };
 use asn1_rs::laws::Grammar;
 use asn1_rs::{
-    BerParser, Error, FromBer, OctetString, ParseResult, SerializeResult, ToDer, fields_in_hand,
-    put_fields, read_ber, read_ber_whole, read_fields, strict_vec,
+    BerParser, Error, FromBer, OctetString, ParseResult, SerializeResult, ToDer,
+    assert_fields_valid, put_fields, read_ber, read_ber_whole, read_fields, strict_vec,
 };
 use std::alloc::Global;
 
@@ -46,8 +46,8 @@ impl<'a> LawfulStruct for Message<'a> {
         put_fields!(self, fields => version, community, data)
     }
 
-    fn row_in_hand(&self) {
-        fields_in_hand!(self => version, community, data)
+    fn assert_row_valid(&self) {
+        assert_fields_valid!(self => version, community, data)
     }
 }
 

@@ -5,10 +5,10 @@ ghost use Rattle.asn1_rs_snmp.specs.declared.numbers.ApplicationNumber.TheVarian
 
 use asn1_rs::author::{
     ArmNumbers, Arms, ChecksChoice, ChoiceKind, ChoiceReader, HasKind, HasReader, LawfulChoice,
-    LawfulType, Never, OfArms, Or, ReadsChoiceByBer, ToldByNumber, UsesArm, choice_of_element,
+    LawfulType, Never, OfArms, Or, ReadsChoiceByBer, TellsArms, ToldByNumber, ToldChoice, UsesArm,
+    check_arms, choice_of_element,
 };
 use asn1_rs::{Any, ApplicationImplicit, Class, DynTagged, Error, Tag};
-use asn1_rs_choices::{TellsArms, ToldChoice, check_arms};
 use std::alloc::Global;
 
 /// A number under a tag of the application class (RFC 2578, 7.1).

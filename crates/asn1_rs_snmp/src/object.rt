@@ -2,17 +2,17 @@
 ghost use Rattle.asn1_rs.specs.Prelude.{ChecksOf, choice_numbers, choice_of, choice_type, class_number, has_a_class};
 ghost use Rattle.asn1_rs.specs.Prelude.{has_a_tag, is_one_of, numbers_of_choice, parts_of, refl};
 ghost use Rattle.std.specs.Prelude.{◌≡◌};
-ghost use Rattle.asn1_rs_choices.specs.declared.arms.OrChoice.TheVariants as part;
+ghost use Rattle.asn1_rs.specs.declared.choices.nested.OrChoice.TheVariants as part;
 ghost use Rattle.asn1_rs_snmp.specs.declared.object.ObjectSyntax.TheVariants as objects;
 
 use crate::application::ApplicationSyntax;
 use crate::simple::SimpleSyntax;
 use asn1_rs::author::{
     ArmNumbers, Arms, ChecksChoice, ChoiceKind, ChoiceReader, HasKind, HasReader, LawfulChoice,
-    LawfulType, Never, OfArms, ReadsChoiceByBer, ToldByNumber, UsesArm, choice_of_element,
+    LawfulType, Never, OfArms, OrChoice, ReadsChoiceByBer, TellsArms, ToldByNumber, ToldChoice,
+    UsesArm, check_arms, choice_of_element,
 };
 use asn1_rs::{Any, Class, DynTagged, Error, Tag};
-use asn1_rs_choices::{OrChoice, TellsArms, ToldChoice, check_arms};
 use std::alloc::Global;
 
 /// A value of an object.

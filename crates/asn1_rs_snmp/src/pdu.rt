@@ -7,7 +7,7 @@ use asn1_rs::author::{
     Fields, FieldsKind, HasKind, HasReader, LawfulStruct, OfRow, ReadsFieldsByBer, ReadsRow, Row4,
     StructReader, struct_by_ber,
 };
-use asn1_rs::{BerParser, Error, SerializeResult, fields_in_hand, put_fields};
+use asn1_rs::{BerParser, Error, SerializeResult, assert_fields_valid, put_fields};
 use std::alloc::Global;
 
 /// A request or an answer. The numbers of the status stand in RFC 3416.
@@ -44,8 +44,8 @@ impl<'a> LawfulStruct for Pdu<'a> {
         put_fields!(self, fields => request_id, error_status, error_index, variable_bindings)
     }
 
-    fn row_in_hand(&self) {
-        fields_in_hand!(self => request_id, error_status, error_index, variable_bindings)
+    fn assert_row_valid(&self) {
+        assert_fields_valid!(self => request_id, error_status, error_index, variable_bindings)
     }
 }
 
@@ -109,8 +109,8 @@ impl<'a> LawfulStruct for BulkPdu<'a> {
         put_fields!(self, fields => request_id, non_repeaters, max_repetitions, variable_bindings)
     }
 
-    fn row_in_hand(&self) {
-        fields_in_hand!(self => request_id, non_repeaters, max_repetitions, variable_bindings)
+    fn assert_row_valid(&self) {
+        assert_fields_valid!(self => request_id, non_repeaters, max_repetitions, variable_bindings)
     }
 }
 

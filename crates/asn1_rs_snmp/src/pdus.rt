@@ -9,10 +9,10 @@ use crate::notices::NoticePdus;
 use crate::requests::RequestPdus;
 use asn1_rs::author::{
     ArmNumbers, ChecksChoice, ChoiceKind, ChoiceReader, HasKind, HasReader, LawfulChoice,
-    LawfulType, Never, OfArms, ReadsChoiceByBer, ToldByNumber, UsesArm, choice_of_element,
+    LawfulType, Never, OfArms, OrChoice, ReadsChoiceByBer, TellsArms, ToldByNumber, ToldChoice,
+    UsesArm, check_arms, choice_of_element,
 };
 use asn1_rs::{Any, Class, DynTagged, Error, Tag};
-use asn1_rs_choices::{OrChoice, TellsArms, ToldChoice, check_arms};
 use std::alloc::Global;
 
 /// What a message holds: what is asked, or what is told.

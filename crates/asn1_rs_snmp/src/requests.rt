@@ -2,17 +2,17 @@
 ghost use Rattle.std.specs.Prelude.{◌≡◌};
 ghost use Rattle.asn1_rs.specs.Prelude.{ChecksOf, choice_numbers, class_number, has_a_class, has_a_tag, is_one_of};
 ghost use Rattle.asn1_rs.specs.Prelude.{numbers_of_choice, parts_of};
-ghost use Rattle.asn1_rs_choices.specs.Parts.Data.{arm_of_choice};
+ghost use Rattle.asn1_rs.specs.Choices.Nested.Data.{arm_of_choice};
 ghost use Rattle.asn1_rs_snmp.specs.Pdus.{in_request_arms, request_laws};
 ghost use Rattle.asn1_rs_snmp.specs.declared.requests.RequestPdus.TheVariants as requests;
 
 use crate::pdu::{BulkPdu, Pdu};
 use asn1_rs::author::{
     ArmNumbers, ChecksChoice, ChoiceKind, ChoiceReader, HasKind, HasReader, LawfulChoice, Never,
-    OfArms, Or, OrTagged, ReadsChoiceByBer, ToldByNumber, UsesArm, choice_of_element,
+    OfArms, Or, OrTagged, ReadsChoiceByBer, TellsArms, ToldByNumber, ToldChoice, UsesArm,
+    check_arms, choice_of_element,
 };
 use asn1_rs::{Any, Class, DynTagged, Error, Tag, TaggedImplicit};
-use asn1_rs_choices::{TellsArms, ToldChoice, check_arms};
 use std::alloc::Global;
 
 /// What is asked.

@@ -7,11 +7,10 @@ ghost use Rattle.asn1_rs_snmp.specs.declared.simple.SimpleSyntax.TheVariants as 
 
 use asn1_rs::author::{
     ArmNumbers, Arms, ChecksChoice, ChoiceKind, ChoiceReader, HasKind, HasReader, LawfulChoice,
-    LawfulType, Never, OfArms, Or, OrUniversal, ReadsChoiceByBer, ToldByNumber, UsesArm,
-    choice_of_element,
+    LawfulType, Never, OfArms, Or, OrUniversal, ReadsChoiceByBer, TellsArms, ToldByNumber,
+    ToldChoice, UsesArm, check_arms, choice_of_element,
 };
 use asn1_rs::{Any, Class, DynTagged, Error, OctetString, Oid, Tag};
-use asn1_rs_choices::{TellsArms, ToldChoice, check_arms};
 use std::alloc::Global;
 
 /// A value of a type without a tag of its own.

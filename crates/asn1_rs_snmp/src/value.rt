@@ -3,17 +3,16 @@ ghost use Rattle.asn1_rs.specs.Prelude.{ChecksOf, choice_numbers, choice_of, cho
 ghost use Rattle.asn1_rs.specs.Prelude.{has_a_tag, is_one_of, numbers_of_choice, parts_of, refl};
 ghost use Rattle.std.specs.Prelude.{◌≡◌};
 ghost use Rattle.asn1_rs.specs.declared.choices.arms.Or.TheVariants as arm;
-ghost use Rattle.asn1_rs_choices.specs.declared.arms.OrChoice.TheVariants as part;
+ghost use Rattle.asn1_rs.specs.declared.choices.nested.OrChoice.TheVariants as part;
 ghost use Rattle.asn1_rs_snmp.specs.declared.value.BindingValue.TheVariants as values;
 
 use crate::object::ObjectSyntax;
 use asn1_rs::author::{
     ArmNumbers, Arms, ChecksChoice, ChoiceKind, ChoiceReader, HasKind, HasReader, LawfulChoice,
-    LawfulType, Never, OfArms, Or, OrTagged, OrUniversal, ReadsChoiceByBer, ToldByNumber, UsesArm,
-    choice_of_element,
+    LawfulType, Never, OfArms, Or, OrChoice, OrTagged, OrUniversal, ReadsChoiceByBer, TellsArms,
+    ToldByNumber, ToldChoice, UsesArm, check_arms, choice_of_element,
 };
 use asn1_rs::{Any, Class, DynTagged, Error, Null, Tag, TaggedImplicit};
-use asn1_rs_choices::{OrChoice, TellsArms, ToldChoice, check_arms};
 use std::alloc::Global;
 
 /// The value of a variable, or why there is none.

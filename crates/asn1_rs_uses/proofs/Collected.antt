@@ -6,7 +6,7 @@ use Rattle.std.proofs.lemmas.List.{length-map}
 use Rattle.std.specs.Iterator.{Yields}
 use Rattle.std.specs.Iterator.Runs.{Run}
 use Rattle.std.proofs.iter.Next.{Yields-more}
-use Rattle.x690.specs.Joined.{IsJoined}
+use Rattle.x690.specs.Joined.{IsConcatenation}
 use Rattle.asn1_headers.specs.declared.error.Err.{Err as Refusal}
 use Rattle.asn1_headers.specs.declared.error.Error.{Error}
 use Rattle.asn1_headers.specs.declared.error.Error.TheVariants as errors
@@ -30,10 +30,10 @@ module _ {T F V E : Type 0} (reads : List ℕ → Result (List ℕ × T) (Refusa
   -- at the end
   pub collected : (Tells : List ℕ → E → Type 0) → Walks Tells →
       (t u : SequenceIterator T F E) (answers : List (Result T E)) (items : List T) → answers ≡ map Ok items →
-      Yields Steps s answers t → Steps t None u → IsJoined G content (map value items)
+      Yields Steps s answers t → Steps t None u → IsConcatenation G content (map value items)
   collected Tells walks t u answers items are y step =
       let w = walks t (map Ok items) (subst (λ (xs : List (Result T E)). Yields Steps s xs t) are y) in
-      subst (λ (o : List ℕ). IsJoined G o (map value items)) begins
+      subst (λ (o : List ℕ). IsConcatenation G o (map value items)) begins
       (items_joined G value Tells (octets_left s) items (octets_left t) w step.0)
 
   -- at a refusal
@@ -74,7 +74,7 @@ pub counted : {T F V E : Type 0} (reads : List ℕ → Result (List ℕ × T) (R
     (G : List ℕ → V → Type 0) (value : T → V)
     (p : Run {S = SequenceIterator T F E} {A = Result T E} (WalkSteps reads from)) →
     IsWalkOf G value (TellsMemoryAlone (IsMemory false from)) p → p.whole ≡ true →
-    (values : List V) × IsJoined G (octets_left p.from) values × (p.len ≡ length values)
+    (values : List V) × IsConcatenation G (octets_left p.from) values × (p.len ≡ length values)
 counted {T} {F} {V} {E} reads from G value p w whole =
     let walk = w.walk in
     let none : walk.ends ≡ [] = none_left from walk.others walk.ends w.left walk.end in

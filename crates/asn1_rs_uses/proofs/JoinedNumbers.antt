@@ -6,13 +6,13 @@ use Rattle.std.specs.List.{All}
 use Rattle.std.specs.Iterator.{Yields}
 use Rattle.std.specs.declared.vec.Vec.{Vec}
 use Rattle.x690.specs.Elements.{Parts}
-use Rattle.x690.specs.Joined.{IsJoined}
+use Rattle.x690.specs.Joined.{IsConcatenation}
 use Rattle.x690.specs.Octets.{IsOctets}
 use Rattle.asn1_headers.specs.Answers.{IsOther}
 use Rattle.asn1_headers.specs.Error.{HeldIn}
 use Rattle.asn1_headers.specs.Header.Reading.{der_refusal}
 use Rattle.asn1_headers.specs.declared.error.Err.{Err as Refusal}
-use Rattle.asn1_headers.specs.declared.error.Err.TheVariants.{Incomplete as cut, Error as refused, Failure as failed}
+use Rattle.asn1_headers.specs.declared.error.Err.TheVariants.{Incomplete as truncated, Error as refused, Failure as failed}
 use Rattle.asn1_headers.specs.declared.error.Error.{Error}
 use Rattle.asn1_headers.specs.declared.error.Error.TheVariants as errors
 use Rattle.asn1_rs.specs.declared.asn1_types.set.set_of.SetOf.{SetOf}
@@ -63,7 +63,7 @@ set_begins reads octets law (Ok x) g =
       is = front.is;
       set = made.2.shape;
       joined =
-          subst (λ (xs : List ℕ). IsJoined NumberByDer (parts_of g.0).content (map pos xs)) (sym made.1) made.2.items;
+          subst (λ (xs : List ℕ). IsConcatenation NumberByDer (parts_of g.0).content (map pos xs)) (sym made.1) made.2.items;
     }
 
 -- a set of numbers that was refused, by what the law says of the element
@@ -89,7 +89,7 @@ other_cause e (inr o) = o
 pub no_memory : {A : Type 0} (answer : Result A (Refusal Error)) → IfErr answer (HeldIn (IsOther same)) →
     IfErr answer (HeldIn (λ e. e ≢ errors.OutOfMemory))
 no_memory (Ok x) h = tt
-no_memory (Err (cut n)) h = tt
+no_memory (Err (truncated n)) h = tt
 no_memory (Err (refused e)) h = other_cause e h
 no_memory (Err (failed e)) h = other_cause e h
 

@@ -3,11 +3,11 @@ use Rattle.std.proofs.Common.{◌≡◌, ap, sym, subst, refl, inl, inr, ⊎_eli
 use Rattle.std.proofs.Common.{length-append, arith}
 use Rattle.std.specs.Prelude.{◌⊎◌, ◌≢◌, ◌≤◌, ◌<◌}
 use Rattle.x690.specs.Elements.{Parts, IsDerElement}
-use Rattle.x690.specs.Identifiers.{Identifier, IsIdentifier, IsCutIdentifier}
+use Rattle.x690.specs.Identifiers.{Identifier, IsIdentifier, IsTruncatedIdentifier}
 use Rattle.asn1_headers.specs.Answers.{Speaks, TellsBeginning}
-use Rattle.asn1_headers.specs.Error.{IsCut}
+use Rattle.asn1_headers.specs.Error.{IsTruncated}
 use Rattle.asn1_headers.specs.declared.error.Err.{Err as Refusal}
-use Rattle.asn1_headers.specs.declared.error.Err.TheVariants.{Incomplete as cut, Error as refused, Failure as failed}
+use Rattle.asn1_headers.specs.declared.error.Err.TheVariants.{Incomplete as truncated, Error as refused, Failure as failed}
 use Rattle.asn1_headers.specs.declared.error.Needed.TheVariants.{Size, Unknown}
 use Rattle.asn1_headers.specs.declared.error.Error.{Error}
 use Rattle.asn1_headers.specs.declared.error.Error.TheVariants as errors
@@ -27,8 +27,8 @@ some_length : (octets : List ℕ) → octets ≢ [] → 1 ≤ length octets
 some_length [] some = elim (some refl) [ ]
 some_length (octet ∷ octets) some = omega arith
 
-pub cut_is_short : (octets : List ℕ) → IsCutIdentifier octets → length octets < 6
-cut_is_short octets h =
+pub truncated_is_short : (octets : List ℕ) → IsTruncatedIdentifier octets → length octets < 6
+truncated_is_short octets h =
     let whole = six_octets (octets ++ h.more) h.id h.whole in
     let sum = length-append octets h.more in
     let some = some_length h.more h.missing in
@@ -37,19 +37,19 @@ cut_is_short octets h =
 -- what a law says of a refusal at octets that more of them make begin with an element
 abbrev pub TellsBeginnings : List ℕ → Refusal Error → Type 0
 TellsBeginnings buffer r = (more word rest : List ℕ) (p : Parts) → IsDerElement word p → buffer ++ more ≡ word ++ rest →
-    TellsBeginning (IsCutIdentifier buffer) r more
+    TellsBeginning (IsTruncatedIdentifier buffer) r more
 
 -- a refusal that is none of missing octets, where an invalid tag is that of six octets or more, is final
 pub none_begins : (buffer : List ℕ) (r : Refusal Error) → TellsBeginnings buffer r →
-    (r ≡ refused errors.InvalidTag → 6 ≤ length buffer) → (IsCut r → ⊥) → NoElementBegins buffer
-none_begins buffer r tells long not_cut = λ more word rest p is fits. ⊎_elim
-    (λ lacks. not_cut (subst IsCut (sym lacks.1) tt))
-    (λ within. let least = long within.0 in let most = cut_is_short buffer within.1 in omega arith)
+    (r ≡ refused errors.InvalidTag → 6 ≤ length buffer) → (IsTruncated r → ⊥) → NoElementBegins buffer
+none_begins buffer r tells long not_truncated = λ more word rest p is fits. ⊎_elim
+    (λ lacks. not_truncated (subst IsTruncated (sym lacks.1) tt))
+    (λ within. let least = long within.0 in let most = truncated_is_short buffer within.1 in omega arith)
     (tells more word rest p fits is)
 
 pub final_refusal : (Other : Type 0) (buffer : List ℕ) (r : Refusal Error) → TellsBeginnings buffer r →
-    (r ≡ refused errors.InvalidTag → 6 ≤ length buffer) → IsCut r ⊎ NoElementBegins buffer ⊎ Other
-final_refusal Other buffer (cut n) tells long = inl tt
+    (r ≡ refused errors.InvalidTag → 6 ≤ length buffer) → IsTruncated r ⊎ NoElementBegins buffer ⊎ Other
+final_refusal Other buffer (truncated n) tells long = inl tt
 final_refusal Other buffer (refused e) tells long = inr (inl (none_begins buffer (refused e) tells long (λ c. c)))
 final_refusal Other buffer (failed e) tells long = inr (inl (none_begins buffer (failed e) tells long (λ c. c)))
 
@@ -60,13 +60,13 @@ no_more (octet ∷ more) few = ⊎_elim (λ none. none) (λ less. let no : ⊥ =
 
 -- each refusal speaks of the octets themselves
 speaks_of_none : (ends_within : Type 0) (r : Refusal Error) (more : List ℕ) → more ≡ [] → Speaks ends_within r more
-speaks_of_none ends_within (cut (Size n)) more none = inl none
-speaks_of_none ends_within (cut Unknown) more none = none
+speaks_of_none ends_within (truncated (Size n)) more none = inl none
+speaks_of_none ends_within (truncated Unknown) more none = none
 speaks_of_none ends_within (refused e) more none = inl none
 speaks_of_none ends_within (failed e) more none = inl none
 
 -- so where any refusal lasts, that of one missing octet does
-pub one_awaited : (buffer : List ℕ) (r : Refusal Error) → RefusalLasts IsDerElement IsCutIdentifier buffer r →
-    RefusalLasts IsDerElement IsCutIdentifier buffer (cut (Size 1))
+pub one_awaited : (buffer : List ℕ) (r : Refusal Error) → RefusalLasts IsDerElement IsTruncatedIdentifier buffer r →
+    RefusalLasts IsDerElement IsTruncatedIdentifier buffer (truncated (Size 1))
 one_awaited buffer r lasts = λ more word rest p few.
-    lasts more word rest p (speaks_of_none (IsCutIdentifier buffer) r more (no_more more few))
+    lasts more word rest p (speaks_of_none (IsTruncatedIdentifier buffer) r more (no_more more few))

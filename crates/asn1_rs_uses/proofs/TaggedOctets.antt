@@ -3,7 +3,7 @@ use Rattle.std.proofs.Common.{◌≡◌, ◌∙◌, ap, sym, subst, ℕ, List, �
 use Rattle.std.specs.Prelude.{Result, Ok, Err, IfOk, IfErr}
 use Rattle.x690.specs.Octets.{IsOctets}
 use Rattle.asn1_headers.specs.declared.error.Err.{Err as Refusal}
-use Rattle.asn1_headers.specs.declared.error.Err.TheVariants.{Incomplete as cut, Error as refused, Failure as failed}
+use Rattle.asn1_headers.specs.declared.error.Err.TheVariants.{Incomplete as truncated, Error as refused, Failure as failed}
 use Rattle.asn1_headers.specs.Error.{Converted}
 use Rattle.asn1_headers.specs.declared.error.Error.{Error}
 use Rattle.asn1_headers.specs.declared.tag.Tag.{Tag}
@@ -45,7 +45,7 @@ string_found {K} {T} value number n reads is front octets (Ok (rest, parser))
 
 -- a refusal whose error stays as it is
 pub same_refusal : (q r : Refusal Error) → Converted SameError q r → r ≡ q
-same_refusal (cut n) r c = c
+same_refusal (truncated n) r c = c
 same_refusal (refused e) r c = c.2 ∙ ap refused c.1
 same_refusal (failed e) r c = c.2 ∙ ap failed c.1
 

@@ -11,7 +11,7 @@ use Rattle.asn1_headers.specs.declared.error.Error.TheVariants as errors
 use Rattle.asn1_headers.specs.Answers.{Exactly, IsOther, TellsMemory}
 use Rattle.asn1_headers.specs.Ber.{max_depth, EndsWithin}
 use Rattle.asn1_headers.specs.Error.{HeldIn}
-use Rattle.asn1_headers.specs.Header.Reading.{ber_breach}
+use Rattle.asn1_headers.specs.Header.Reading.{ber_violation}
 use Rattle.asn1_rs.specs.declared.asn1_types.any.Any.{Any}
 use Rattle.asn1_rs.specs.Any.{parts_of, BerElementGives}
 use Rattle.asn1_rs.specs.Checks.{CheckGives}
@@ -24,7 +24,7 @@ use Rattle.asn1_rs.specs.Kinds.{item_grammar}
 use Rattle.asn1_rs.specs.Laws.Integer.{integer_checks, integer_lawful}
 use Rattle.asn1_rs.specs.Laws.Integer.Unsigned.{unsigned_converts}
 use Rattle.asn1_rs.specs.Laws.Kinds.{held_takes, lawful_item, other_error}
-use Rattle.asn1_rs.specs.Laws.Readers.{all_pass, ber_breach_no_memory, ber_elements, element_exact, element_no_memory}
+use Rattle.asn1_rs.specs.Laws.Readers.{all_pass, ber_violation_no_memory, ber_elements, element_exact, element_no_memory}
 use Rattle.asn1_rs.specs.Laws.Readers.{passes_all}
 use Rattle.asn1_rs.specs.Laws.Tagged.Explicit.{explicit_lawful, explicit_number, explicit_takes_class, explicit_takes}
 use Rattle.asn1_rs.specs.Laws.Tagged.Explicit.{explicit_takes_no_memory, explicit_checks}
@@ -121,8 +121,8 @@ handle_lawful number =
 -- The constraints of a handle are exactly those of what it holds.
 pub handle_checked : IsExactCheck HandleCheckGives (ImplicitCheck 1 PlaceCheck)
 handle_checked = implicit_checked 1 (ExplicitCheckGives BerElementGives IntegerCheckGives) PlaceCheck
-    (explicit_checks (IsElement max_depth) (ElementFault max_depth) EndsWithin ber_elements ber_breach
-    ber_breach_no_memory
+    (explicit_checks (IsElement max_depth) (ElementFault max_depth) EndsWithin ber_elements ber_violation
+    ber_violation_no_memory
     IntegerCheckGives IntegerCheck integer_checks)
 
 -- the number is read by BER
@@ -133,14 +133,14 @@ Reads = BerGives (OfParts (UnsignedGives 1)) (λ x y. y ≡ x)
 reads_exact : (input : List ℕ) (answer : Result (List ℕ × ℕ) (Refusal Error)) → IsOctets input → Reads input answer →
     Exactly EndsWithin (BerWord numbers.Body) pos (TellsMemory false (λ x y. y ≡ x)) input answer
 reads_exact input answer octets =
-    element_exact (IsElement max_depth) (ElementFault max_depth) EndsWithin ber_elements ber_breach PassesAll
+    element_exact (IsElement max_depth) (ElementFault max_depth) EndsWithin ber_elements ber_violation PassesAll
     (OfParts (UnsignedGives 1)) (λ x y. y ≡ x) NoCheck numbers.Body pos false (BerWord numbers.Body)
     passes_all (unsigned_converts 1).exact (λ o v w. w) (λ o v w. w) input answer
 
 -- A refusal of such a reading is one of the library's.
 reads_no_memory : (input : List ℕ) (answer : Result (List ℕ × ℕ) (Refusal Error)) → Reads input answer →
     IfErr answer (HeldIn (IsOther (λ x y. y ≡ x)))
-reads_no_memory = element_no_memory (IsElement max_depth) (ElementFault max_depth) ber_breach ber_breach_no_memory
+reads_no_memory = element_no_memory (IsElement max_depth) (ElementFault max_depth) ber_violation ber_violation_no_memory
     PassesAll
     (OfParts (UnsignedGives 1)) (λ x y. y ≡ x) all_pass
     (other_error (OfParts (UnsignedGives 1)) ((unsigned_converts 1).asks_no_memory refl))

@@ -1,7 +1,7 @@
 -- Contents octets that are not items alone, and sets of numbers.
 use Rattle.std.specs.Prelude.{◌≡◌, ◌⊎◌, ℕ, List, ◌++◌, map, pos}
 use Rattle.x690.specs.Elements.{Parts, IsDerElement}
-use Rattle.x690.specs.Joined.{NoFront, IsJoined}
+use Rattle.x690.specs.Joined.{NoPrefix, IsConcatenation}
 use Rattle.x690.specs.Faults.{DerElementFault}
 use Rattle.asn1_headers.specs.Answers.{Front}
 use Rattle.asn1_headers.specs.Header.Reading.{Refused, der_refusal}
@@ -16,7 +16,7 @@ use Rattle.asn1_rs_uses.specs.Numbers.{NumberByDer}
 
 -- no word begins the octets, whatever is told of them
 abbrev pub NoWord : {V E : Type 0} → (List ℕ → V → Type 0) → List ℕ → E → Type 0
-NoWord G octets e = NoFront G octets
+NoWord G octets e = NoPrefix G octets
 
 -- words begin the octets, and then something is left that no word begins
 abbrev pub EndsBefore : {V E : Type 0} → (List ℕ → V → Type 0) → List ℕ → E → Type 0
@@ -30,7 +30,7 @@ pub record BeginsWithNumbers (octets numbers rest : List ℕ) : Type 0 where
   pub element : IsDerElement word parts
   pub is : octets ≡ word ++ rest
   pub set : parts.id.number ≡ 17
-  pub joined : IsJoined NumberByDer parts.content (map pos numbers)
+  pub joined : IsConcatenation NumberByDer parts.content (map pos numbers)
 
 -- No element by DER begins the octets, or the element there is no set of numbers by DER. Or memory was wanted.
 abbrev pub RefusesNumbers : List ℕ → Refusal Error → Type 0

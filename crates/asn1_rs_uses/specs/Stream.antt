@@ -2,9 +2,9 @@
 use Rattle.std.specs.Prelude.{◌≡◌, ◌⊎◌, ◌<◌, ◌++◌, ℕ, List, length, Result, Err}
 use Rattle.x690.specs.Elements.{Parts, IsDerElement}
 use Rattle.x690.specs.Faults.{DerElementFault}
-use Rattle.x690.specs.Joined.{NoFront}
+use Rattle.x690.specs.Joined.{NoPrefix}
 use Rattle.asn1_headers.specs.declared.error.Err.{Err as Refusal}
-use Rattle.asn1_headers.specs.declared.error.Err.TheVariants.{Incomplete as cut, Error as refused}
+use Rattle.asn1_headers.specs.declared.error.Err.TheVariants.{Incomplete as truncated, Error as refused}
 use Rattle.asn1_headers.specs.declared.error.Needed.TheVariants.{Size}
 use Rattle.asn1_headers.specs.declared.error.Error.{Error}
 use Rattle.asn1_headers.specs.Answers.{Front}
@@ -15,11 +15,11 @@ use Rattle.asn1_headers.specs.Header.Reading.{Refused, der_refusal}
 -- an identifier, one is awaited.
 abbrev pub IsAwaited : List ℕ → Refusal Error → Type 0
 IsAwaited buffer r =
-    Refused DerElementFault der_refusal buffer r ⊎ ((r ≡ cut (Size 1)) × (length buffer < 6))
+    Refused DerElementFault der_refusal buffer r ⊎ ((r ≡ truncated (Size 1)) × (length buffer < 6))
 
 -- no element by DER begins the octets, whatever follows
 abbrev pub NoElementBegins : List ℕ → Type 0
-NoElementBegins octets = (more : List ℕ) → NoFront IsDerElement (octets ++ more)
+NoElementBegins octets = (more : List ℕ) → NoPrefix IsDerElement (octets ++ more)
 
 -- an element by DER begins the octets
 abbrev pub AnElementBegins : List ℕ → Type 0

@@ -1,6 +1,6 @@
 //! Values that borrow the octets that they are read from, and last as long as those.
 ghost use Rattle.std.specs.Prelude.{◌⊎◌, IfOk, IfErr};
-ghost use Rattle.asn1_rs.specs.Prelude.{Exactly, IsCutIdentifier, seen};
+ghost use Rattle.asn1_rs.specs.Prelude.{Exactly, IsTruncatedIdentifier, seen};
 ghost use Rattle.asn1_rs.specs.OctetString.{slice_leaf, octet_string_leaf, octets_of};
 ghost use Rattle.asn1_rs.specs.BitString.{bit_string_leaf, bits_in};
 ghost use Rattle.asn1_rs.specs.Integer.Octets.{any_integer_leaf, integer_octets};
@@ -30,7 +30,7 @@ pub fn contents_octets<'a>(alloc: Global, octets: &'a [u8]) -> Result<&'a [u8], 
 
 /// The octets of the octet string at the front, by DER, and what follows it.
 pub fn read_octets<'a>(alloc: Global, octets: &'a [u8]) -> ParseResult<'a, &'a [u8], Error>
-    ensures { Exactly IsCutIdentifier (LeafByDer slice_leaf) (λ x. x.now) NoMemory
+    ensures { Exactly IsTruncatedIdentifier (LeafByDer slice_leaf) (λ x. x.now) NoMemory
         octets.now (seen result) }
 {
     read_der::<&'a [u8], Error>(alloc, octets)
@@ -41,7 +41,7 @@ pub fn read_octet_string<'a>(
     alloc: Global,
     octets: &'a [u8],
 ) -> ParseResult<'a, OctetString<'a>, Error>
-    ensures { Exactly IsCutIdentifier (LeafByDer octet_string_leaf) octets_of NoMemory
+    ensures { Exactly IsTruncatedIdentifier (LeafByDer octet_string_leaf) octets_of NoMemory
         octets.now (seen result) }
 {
     read_der::<OctetString<'a>, Error>(alloc, octets)
@@ -52,7 +52,7 @@ pub fn read_utf8_string<'a>(
     alloc: Global,
     octets: &'a [u8],
 ) -> ParseResult<'a, Utf8String<'a>, Error>
-    ensures { Exactly IsCutIdentifier (LeafByDer utf8_string_leaf) text_of NoMemory
+    ensures { Exactly IsTruncatedIdentifier (LeafByDer utf8_string_leaf) text_of NoMemory
         octets.now (seen result) }
 {
     read_der::<Utf8String<'a>, Error>(alloc, octets)
@@ -73,7 +73,7 @@ pub fn any_text<'a>(alloc: Global, octets: &'a [u8]) -> Result<&'a str, Error>
 
 /// The bit string at the front, by DER, and what follows it.
 pub fn read_bit_string<'a>(alloc: Global, octets: &'a [u8]) -> ParseResult<'a, BitString<'a>, Error>
-    ensures { Exactly IsCutIdentifier (LeafByDer bit_string_leaf) bits_in NoMemory
+    ensures { Exactly IsTruncatedIdentifier (LeafByDer bit_string_leaf) bits_in NoMemory
         octets.now (seen result) }
 {
     read_der::<BitString<'a>, Error>(alloc, octets)
@@ -81,7 +81,7 @@ pub fn read_bit_string<'a>(alloc: Global, octets: &'a [u8]) -> ParseResult<'a, B
 
 /// The integer of any size at the front, by DER, and what follows it.
 pub fn read_integer<'a>(alloc: Global, octets: &'a [u8]) -> ParseResult<'a, Integer<'a>, Error>
-    ensures { Exactly IsCutIdentifier (LeafByDer any_integer_leaf) integer_octets NoMemory
+    ensures { Exactly IsTruncatedIdentifier (LeafByDer any_integer_leaf) integer_octets NoMemory
         octets.now (seen result) }
 {
     read_der::<Integer<'a>, Error>(alloc, octets)
@@ -89,7 +89,7 @@ pub fn read_integer<'a>(alloc: Global, octets: &'a [u8]) -> ParseResult<'a, Inte
 
 /// The sequence at the front, by DER, kept as its contents octets, and what follows it.
 pub fn read_sequence<'a>(alloc: Global, octets: &'a [u8]) -> ParseResult<'a, Sequence<'a>, Error>
-    ensures { Exactly IsCutIdentifier (LeafByDer sequence_leaf) kept_octets NoMemory
+    ensures { Exactly IsTruncatedIdentifier (LeafByDer sequence_leaf) kept_octets NoMemory
         octets.now (seen result) }
 {
     read_der::<Sequence<'a>, Error>(alloc, octets)

@@ -9,7 +9,7 @@ ghost use Rattle.asn1_rs_uses.specs.Fingerprint.{fingerprint_leaf, fingerprint_l
 use asn1_rs::author::{
     ConvertsLeaf, DerElement, ElementKind, HasKind, LeafType, TagNumber, WritesOctets,
 };
-use asn1_rs::laws::octets_in_hand;
+use asn1_rs::laws::assert_octets_valid;
 use asn1_rs::{Any, Error, Tag, Tagged};
 use std::alloc::Global;
 
@@ -28,8 +28,8 @@ impl LeafType for Fingerprint<'_> {
 
     ghost exact = { leaf_exact fingerprint_leaf fingerprint_lawful };
 
-    fn leaf_in_hand(&self) {
-        octets_in_hand(self.0);
+    fn assert_leaf_valid(&self) {
+        assert_octets_valid(self.0);
     }
 
     fn check_leaf(any: &Any<'_>) -> Result<(), Error>

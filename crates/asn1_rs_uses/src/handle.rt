@@ -1,6 +1,6 @@
 //! A lawful type of a caller's under an implicit tag over an explicit one, which claims its laws itself.
 ghost use Rattle.std.specs.Prelude.{pos};
-ghost use Rattle.asn1_rs.specs.Prelude.{Exactly, IsCutIdentifier, seen};
+ghost use Rattle.asn1_rs.specs.Prelude.{Exactly, IsTruncatedIdentifier, seen};
 ghost use Rattle.asn1_rs_uses.specs.Handles.{HandleByDer, HandleTakes, HandleCheckGives, handle_element, handle_lawful};
 ghost use Rattle.asn1_rs_uses.specs.Handles.{handle_checked, handle_converts};
 ghost use Rattle.asn1_rs_uses.specs.Numbers.{NoMemory};
@@ -53,8 +53,8 @@ impl LawfulElement for Handle {
 
     ghost lawful = { handle_lawful (λ x. x.0.inner.inner) };
 
-    fn value_in_hand(&self) {
-        self.0.as_inner().as_inner().value_in_hand();
+    fn assert_value_valid(&self) {
+        self.0.as_inner().as_inner().assert_value_valid();
     }
 }
 
@@ -68,7 +68,7 @@ impl<'a> LawfulConversion<'a> for Handle {
 
 /// The handle at the front of the octets, by DER, and what follows it.
 pub fn read_handle(alloc: Global, octets: &[u8]) -> ParseResult<'_, Handle, Error>
-    ensures { Exactly IsCutIdentifier HandleByDer (λ handle. pos handle.0.inner.inner) NoMemory
+    ensures { Exactly IsTruncatedIdentifier HandleByDer (λ handle. pos handle.0.inner.inner) NoMemory
         octets.now (seen result) }
 {
     read_der::<Handle, Error>(alloc, octets)

@@ -1,7 +1,7 @@
 //! Object identifiers: read, made of arcs, compared.
 ghost use Rattle.std.specs.Prelude.{◌≡◌, ◌↔◌, ℕ, List, true, false, Err, MatchResult};
 ghost use Rattle.x690.specs.Arcs.{AreAbsoluteArcs};
-ghost use Rattle.asn1_rs.specs.Prelude.{Exactly, IsCutIdentifier, seen};
+ghost use Rattle.asn1_rs.specs.Prelude.{Exactly, IsTruncatedIdentifier, seen};
 ghost use Rattle.x690.specs.Octets.{BeginsWith};
 ghost use Rattle.asn1_rs.specs.declared.asn1_types.oid.Oid.{Oid};
 ghost use Rattle.asn1_rs.specs.Oid.{oid_octets, oid_value};
@@ -17,7 +17,7 @@ use std::hash::Hash;
 
 /// The object identifier at the front, by DER, and what follows it.
 pub fn read_oid<'a>(alloc: Global, octets: &'a [u8]) -> ParseResult<'a, Oid<'a>, Error>
-    ensures { Exactly IsCutIdentifier OidByDer oid_value NoMemory octets.now (seen result) }
+    ensures { Exactly IsTruncatedIdentifier OidByDer oid_value NoMemory octets.now (seen result) }
 {
     read_der::<Oid<'a>, Error>(alloc, octets)
 }

@@ -1,6 +1,6 @@
 //! Headers and elements that may be cut.
 ghost use Rattle.std.specs.Prelude.{◌≡◌, ◌<◌, ◌++◌, ℕ, List, length, IfOk};
-ghost use Rattle.asn1_rs.specs.Prelude.{IsCutIdentifier, seen};
+ghost use Rattle.asn1_rs.specs.Prelude.{IsTruncatedIdentifier, seen};
 ghost use Rattle.x690.specs.Identifiers.{Identifier, IsIdentifier};
 ghost use Rattle.x690.specs.Lengths.{LengthForm};
 ghost use Rattle.x690.specs.Rules.{ber_rule};
@@ -17,9 +17,9 @@ use std::alloc::Global;
 /// It keeps its identifier octets, which the input lends. Octets that end within such an element are refused. The
 /// refusal is `Incomplete` of as many as are missing or fewer, or `InvalidTag`.
 pub fn read_element<'a>(alloc: Global, octets: &'a [u8]) -> ParseResult<'a, Any<'a>, Error>
-    ensures cut { (more word rest : List ℕ) (p : Parts) → IsDerElement word p
+    ensures truncated { (more word rest : List ℕ) (p : Parts) → IsDerElement word p
         → octets.now ++ more ≡ word ++ rest → length octets.now < length word
-        → RefusedAsBeginning (IsCutIdentifier octets.now) more (seen result) }
+        → RefusedAsBeginning (IsTruncatedIdentifier octets.now) more (seen result) }
     ensures raw_tag { (identifier more : List ℕ) (id : Identifier) → IsIdentifier identifier id
         → octets.now ≡ identifier ++ more
         → IfOk (seen result) (λ x. KeepsLent identifier x.1.header) }
@@ -31,10 +31,10 @@ pub fn read_element<'a>(alloc: Global, octets: &'a [u8]) -> ParseResult<'a, Any<
 
 /// The header at the front of the octets, by BER, and what follows it. Octets that end within a header are refused.
 pub fn read_header<'a>(alloc: Global, octets: &'a [u8]) -> ParseResult<'a, Header<'a>, Error>
-    ensures cut { (more front rest : List ℕ) (id : Identifier) (form : LengthForm)
+    ensures truncated { (more front rest : List ℕ) (id : Identifier) (form : LengthForm)
         → IsHeader ber_rule front id form → octets.now ++ more ≡ front ++ rest
         → length octets.now < length front
-        → RefusedAsBeginning (IsCutIdentifier octets.now) more (seen result) }
+        → RefusedAsBeginning (IsTruncatedIdentifier octets.now) more (seen result) }
 {
     beginnings_are_refused();
     Header::from_ber(alloc, octets)

@@ -1,6 +1,6 @@
 //! Items in contents octets.
 ghost use Rattle.std.specs.Prelude.{◌≡◌, ◌⊎◌, List, length, map, pos, ℤ, IfOk, IfErr};
-ghost use Rattle.x690.specs.Joined.{IsJoined, AreJoinedWords};
+ghost use Rattle.x690.specs.Joined.{IsConcatenation, AreConcatenatedWords};
 ghost use Rattle.asn1_headers.specs.declared.error.Error.TheVariants as errors;
 ghost use Rattle.asn1_rs.specs.Any.Value.{ElementBody, element_of};
 ghost use Rattle.asn1_rs.specs.Grammar.{BerWord};
@@ -21,10 +21,10 @@ where
     T: Drop,
     F: ReadsWords<'a, T, E>,
     E: From<Error>,
-    ensures joined { IfOk result (λ items. IsJoined F.Words content.now (map F.value items.items)) }
+    ensures joined { IfOk result (λ items. IsConcatenation F.Words content.now (map F.value items.items)) }
     ensures refused { IfErr result (λ e. E.from_gives errors.OutOfMemory e
         ⊎ EndsBefore F.Words content.now e) }
-    ensures whole { AreJoinedWords F.Words content.now
+    ensures whole { AreConcatenatedWords F.Words content.now
         → IfErr result (E.from_gives errors.OutOfMemory) }
 {
     walks_take_words::<T, F, E>();
@@ -43,10 +43,10 @@ where
 
 /// The numbers in contents octets, by DER.
 pub fn numbers_in(alloc: Global, content: &[u8]) -> Result<Vec<u64>, Error>
-    ensures joined { IfOk result (λ items. IsJoined NumberByDer content.now (map pos items.items)) }
+    ensures joined { IfOk result (λ items. IsConcatenation NumberByDer content.now (map pos items.items)) }
     ensures refused { IfErr result (λ e. (e ≡ errors.OutOfMemory)
         ⊎ EndsBefore NumberByDer content.now e) }
-    ensures whole { AreJoinedWords NumberByDer content.now →
+    ensures whole { AreConcatenatedWords NumberByDer content.now →
         IfErr result (λ e. e ≡ errors.OutOfMemory) }
 {
     items_in::<u64, DerParser, Error>(alloc, content)
@@ -55,10 +55,10 @@ pub fn numbers_in(alloc: Global, content: &[u8]) -> Result<Vec<u64>, Error>
 /// The elements in contents octets, by BER.
 pub fn elements_in<'a>(alloc: Global, content: &'a [u8]) -> Result<Vec<Any<'a>>, Error>
     ensures joined { IfOk result
-        (λ items. IsJoined (BerWord ElementBody) content.now (map element_of items.items)) }
+        (λ items. IsConcatenation (BerWord ElementBody) content.now (map element_of items.items)) }
     ensures refused { IfErr result (λ e. (e ≡ errors.OutOfMemory)
         ⊎ EndsBefore (BerWord ElementBody) content.now e) }
-    ensures whole { AreJoinedWords (BerWord ElementBody) content.now →
+    ensures whole { AreConcatenatedWords (BerWord ElementBody) content.now →
         IfErr result (λ e. e ≡ errors.OutOfMemory) }
 {
     items_in::<Any<'a>, BerParser, Error>(alloc, content)
@@ -68,8 +68,8 @@ pub fn elements_in<'a>(alloc: Global, content: &'a [u8]) -> Result<Vec<Any<'a>>,
 // Of other contents octets there is no clause. `count` of std counts a refusal as an item. So the number is one more
 // than that of the words before the refusal, and tells a caller nothing.
 pub fn count_of_numbers(alloc: Global, content: &[u8]) -> usize
-    ensures { AreJoinedWords NumberByDer content.now → (numbers : List ℤ)
-        × IsJoined NumberByDer content.now numbers × (result ≡ length numbers) }
+    ensures { AreConcatenatedWords NumberByDer content.now → (numbers : List ℤ)
+        × IsConcatenation NumberByDer content.now numbers × (result ≡ length numbers) }
 {
     walks_take_words::<u64, DerParser, Error>();
     SequenceIterator::<u64, DerParser, Error>::new(alloc, content).count()

@@ -1,9 +1,9 @@
 //! Items of sequences and sets, as the words that contents octets are joined of.
 ghost use Rattle.std.specs.Prelude.{◌≡◌, ◌≢◌, ◌⊎◌, ℤ, List, map, pos, IfOk, IfErr};
-ghost use Rattle.x690.specs.Joined.{IsJoined};
+ghost use Rattle.x690.specs.Joined.{IsConcatenation};
 ghost use Rattle.asn1_rs.specs.Prelude.{items_of, seen};
 ghost use Rattle.asn1_headers.specs.declared.error.Error.TheVariants as errors;
-ghost use Rattle.asn1_rs.specs.Lists.{HasNoJoining};
+ghost use Rattle.asn1_rs.specs.Lists.{HasNoConcatenation};
 ghost use Rattle.asn1_rs_uses.specs.Items.{EndsBefore, BeginsWithNumbers, RefusesNumbers};
 ghost use Rattle.asn1_rs_uses.specs.Numbers.{NumberByDer};
 
@@ -15,9 +15,9 @@ use std::borrow::CowSlice;
 /// The numbers of the sequence that has these contents octets, by DER.
 pub fn numbers_of(alloc: Global, content: &[u8]) -> Result<Vec<u64>, Error>
     ensures joined { IfOk result
-        (λ numbers. IsJoined NumberByDer content.now (map pos numbers.items)) }
+        (λ numbers. IsConcatenation NumberByDer content.now (map pos numbers.items)) }
     ensures refused { IfErr result (λ e. (e ≡ errors.OutOfMemory)
-        ⊎ HasNoJoining NumberByDer content.now) }
+        ⊎ HasNoConcatenation NumberByDer content.now) }
 {
     items_are_joined_words::<u64, DerParser, Error>();
     let sequence = Sequence::new(CowSlice::Borrowed(content));
@@ -38,7 +38,7 @@ pub fn set_of_numbers(alloc: Global, octets: &[u8]) -> ParseResult<'_, SetOf<u64
 
 /// Refuses contents octets that are not numbers by DER, joined. No memory is taken, so it is not told to be out.
 pub fn check_numbers(alloc: Global, content: &[u8]) -> Result<(), Error>
-    ensures joined { IfOk result (λ _. (numbers : List ℤ) × IsJoined NumberByDer content.now numbers) }
+    ensures joined { IfOk result (λ _. (numbers : List ℤ) × IsConcatenation NumberByDer content.now numbers) }
     ensures refused { IfErr result (EndsBefore NumberByDer content.now) }
     ensures asks_no_memory { IfErr result (λ e. e ≢ errors.OutOfMemory) }
 {

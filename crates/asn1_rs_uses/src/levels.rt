@@ -1,6 +1,6 @@
 //! A lawful type of a caller's at an error type of its own, under a tag that its reader answers.
 ghost use Rattle.std.specs.Prelude.{◌≡◌, List, ℕ, Result, pos, false};
-ghost use Rattle.asn1_rs.specs.Prelude.{Exactly, IsCutIdentifier, IsOctets, TellsMemory};
+ghost use Rattle.asn1_rs.specs.Prelude.{Exactly, IsTruncatedIdentifier, IsOctets, TellsMemory};
 ghost use Rattle.asn1_headers.specs.declared.error.Err.{Err as Refusal};
 ghost use Rattle.asn1_headers.specs.Header.{identifier_of};
 ghost use Rattle.asn1_rs.specs.declared.asn1_types.tagged.parser.TaggedParser.{TaggedParser};
@@ -81,8 +81,8 @@ impl LawfulElement for Level {
 
     ghost lawful = { holding_lawful level_number _ (integer_lawful (IsUnsigned 1) pos) };
 
-    fn value_in_hand(&self) {
-        self.0.value_in_hand();
+    fn assert_value_valid(&self) {
+        self.0.assert_value_valid();
     }
 }
 
@@ -104,7 +104,7 @@ pub fn levels_under_tags_are_exact()
         ThenByDer (λ e refusal. refusal ≡ Octets e) (TakesWhole (DerGives IntegerCheckGives
         (RefusedAs Octets LevelConverts) (λ e refusal. refusal ≡ Octets e))
         (λ e refusal. refusal ≡ Octets e)) input answer →
-        Exactly IsCutIdentifier LevelByDer
+        Exactly IsTruncatedIdentifier LevelByDer
         (λ parser. (identifier_of parser.header, pos parser.inner.0))
         (TellsMemory false (λ e refusal. refusal ≡ Octets e)) input answer }
 {

@@ -18,6 +18,7 @@ mod midnight;
 mod numbers;
 mod point;
 mod read_back;
+mod receipt;
 mod refusals;
 mod row;
 mod sequences;
@@ -51,6 +52,7 @@ pub use numbers::{
 };
 pub use point::Point;
 pub use read_back::written_and_read;
+pub use receipt::{Order, Receipt, ReceiptRow, read_receipt, receipt_vec};
 pub use refusals::{
     InClass, NamePart, count_name, vector_in_class, write_header_in_class, write_in_class,
     write_list_in_classes, write_name, write_ordered_set_in_classes, write_raw_in_class,

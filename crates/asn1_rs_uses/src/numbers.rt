@@ -1,7 +1,7 @@
 //! Numbers by BER and by DER, with the theorems in words of numbers.
 ghost use Rattle.std.specs.Prelude.{◌≡◌, ◌≢◌, ◌<◌, ◌≤◌, ◌^◌, ◌++◌, ◌↔◌, ◌⊎◌, ℕ, ℤ, List, length, pos, IfOk, IfErr};
 ghost use Rattle.std.specs.Prelude.{IsTrue, MatchResult};
-ghost use Rattle.asn1_rs.specs.Prelude.{EndsWithin, Exactly, HeldIn, IsCutIdentifier, IsMemoryOrLength, seen};
+ghost use Rattle.asn1_rs.specs.Prelude.{EndsWithin, Exactly, HeldIn, IsTruncatedIdentifier, IsMemoryOrLength, seen};
 ghost use Rattle.x690.specs.Identifiers.{Identifier};
 ghost use Rattle.asn1_headers.specs.Answers.{RefusedBeforeEnd};
 ghost use Rattle.asn1_headers.specs.declared.error.Error.TheVariants as errors;
@@ -17,10 +17,10 @@ use std::alloc::Global;
 
 /// The number at the front of the octets, by DER, and what follows it.
 pub fn read_number(alloc: Global, octets: &[u8]) -> ParseResult<'_, u64, Error>
-    ensures exact { Exactly IsCutIdentifier NumberByDer pos NoMemory octets.now (seen result) }
-    ensures cut { (more word rest : List ℕ) (n : ℤ) → NumberByDer word n
+    ensures exact { Exactly IsTruncatedIdentifier NumberByDer pos NoMemory octets.now (seen result) }
+    ensures truncated { (more word rest : List ℕ) (n : ℤ) → NumberByDer word n
         → octets.now ++ more ≡ word ++ rest → length octets.now < length word
-        → RefusedBeforeEnd NoMemory (IsCutIdentifier octets.now) more (seen result) }
+        → RefusedBeforeEnd NoMemory (IsTruncatedIdentifier octets.now) more (seen result) }
     ensures asks_no_memory { IfErr (seen result) (HeldIn (λ e. e ≢ errors.OutOfMemory)) }
 {
     reader_is_exact_by_der::<u64, Error>();

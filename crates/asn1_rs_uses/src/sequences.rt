@@ -1,6 +1,6 @@
 //! Sequences of integers.
 ghost use Rattle.std.specs.Prelude.{◌≡◌, ℤ, List, map, pos, MatchResult};
-ghost use Rattle.asn1_rs.specs.Prelude.{Exactly, IsCutIdentifier, IsMemoryOrLength, seen};
+ghost use Rattle.asn1_rs.specs.Prelude.{Exactly, IsTruncatedIdentifier, IsMemoryOrLength, seen};
 ghost use Rattle.asn1_rs_uses.specs.Sequences.{ShortNumbers, WantsMemory, numbers_octets};
 
 use asn1_rs::laws::AlwaysDer;
@@ -9,7 +9,7 @@ use std::alloc::Global;
 
 /// The numbers of the sequence at the front of the octets, by DER, and what follows it.
 pub fn read_numbers(alloc: Global, octets: &[u8]) -> ParseResult<'_, Vec<u32>, Error>
-    ensures { Exactly IsCutIdentifier ShortNumbers (λ numbers. map pos numbers.items)
+    ensures { Exactly IsTruncatedIdentifier ShortNumbers (λ numbers. map pos numbers.items)
         WantsMemory octets.now (seen result) }
 {
     read_der::<Vec<u32>, Error>(alloc, octets)

@@ -32,8 +32,8 @@ impl LeafType for SerialNumber {
     ghost exact = { holding_exact (λ x. x.0) _
         (machine_exact (unsigned_machine 8) (unsigned_lawful 8)) };
 
-    fn leaf_in_hand(&self) {
-        self.0.leaf_in_hand();
+    fn assert_leaf_valid(&self) {
+        self.0.assert_leaf_valid();
     }
 
     fn check_leaf(any: &Any<'_>) -> Result<(), Error> {

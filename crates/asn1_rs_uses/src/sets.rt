@@ -1,13 +1,13 @@
 //! Sets of small numbers, with the theorems in words of sets.
 ghost use Rattle.std.specs.Prelude.{◌≡◌, ◌↔◌, ◌⊎◌, List, map, pos, IfOk, IfErr, IsTrue, MatchResult};
 ghost use Rattle.x690.specs.Collections.{multiset, value_set};
-ghost use Rattle.asn1_rs.specs.Prelude.{Exactly, IsCutIdentifier, IsMemoryOrLength, items_of, seen};
+ghost use Rattle.asn1_rs.specs.Prelude.{Exactly, IsTruncatedIdentifier, IsMemoryOrLength, items_of, seen};
 ghost use Rattle.asn1_rs.specs.Set.{set_of};
 ghost use Rattle.asn1_rs_uses.specs.Sequences.{WantsMemory};
 ghost use Rattle.asn1_rs_uses.specs.Sets.{CountedNumbers, DistinctNumbers, DistinctSigned, set_octets};
 ghost use Rattle.asn1_rs_uses.specs.Sets.{signed_set_octets};
 
-use asn1_rs::laws::{AlwaysDer, members_in_hand, words_and_values_are_unique};
+use asn1_rs::laws::{AlwaysDer, assert_members_valid, words_and_values_are_unique};
 use asn1_rs::{Error, ParseResult, SerializeResult, SetOf, read_der, strict_vec};
 use std::alloc::Global;
 use std::collections::{BTreeSet, HashSet};
@@ -15,7 +15,7 @@ use std::collections::{BTreeSet, HashSet};
 /// The numbers of the set at the front of the octets, by DER, and what follows the set. Each number comes as often as
 /// it stands there.
 pub fn read_counted(alloc: Global, octets: &[u8]) -> ParseResult<'_, SetOf<u8>, Error>
-    ensures { Exactly IsCutIdentifier CountedNumbers (λ set. multiset (map pos (items_of set)))
+    ensures { Exactly IsTruncatedIdentifier CountedNumbers (λ set. multiset (map pos (items_of set)))
         WantsMemory octets.now (seen result) }
 {
     read_der::<SetOf<u8>, Error>(alloc, octets)
@@ -48,12 +48,12 @@ pub fn are_same_counted(alloc: Global, one: &SetOf<u8>, other: &SetOf<u8>) -> Se
 
 /// The set of distinct numbers at the front of the octets, by DER, and what follows it.
 pub fn read_distinct(alloc: Global, octets: &[u8]) -> ParseResult<'_, BTreeSet<u8>, Error>
-    ensures { Exactly IsCutIdentifier DistinctNumbers (λ set. set_of (map pos set.keys))
+    ensures { Exactly IsTruncatedIdentifier DistinctNumbers (λ set. set_of (map pos set.keys))
         WantsMemory octets.now (seen result) }
 {
     let answer = read_der::<BTreeSet<u8>, Error>(alloc, octets);
     if let Ok((_, set)) = &answer {
-        members_in_hand(set);
+        assert_members_valid(set);
     }
     answer
 }
@@ -69,12 +69,12 @@ pub fn write_distinct(alloc: Global, members: &BTreeSet<u8>) -> SerializeResult<
 
 /// The set of distinct signed numbers at the front of the octets, by DER, and what follows it.
 pub fn read_signed(alloc: Global, octets: &[u8]) -> ParseResult<'_, HashSet<i8>, Error>
-    ensures { Exactly IsCutIdentifier DistinctSigned (λ set. set_of set.keys)
+    ensures { Exactly IsTruncatedIdentifier DistinctSigned (λ set. set_of set.keys)
         WantsMemory octets.now (seen result) }
 {
     let answer = read_der::<HashSet<i8>, Error>(alloc, octets);
     if let Ok((_, set)) = &answer {
-        members_in_hand(set);
+        assert_members_valid(set);
     }
     answer
 }

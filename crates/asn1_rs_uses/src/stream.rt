@@ -1,8 +1,8 @@
 //! Messages in a buffer that a stream fills.
 ghost use Rattle.std.specs.Prelude.{◌≡◌, ◌⊎◌, ◌≤◌, ◌<◌, length, true, false, IfOk, IfErr, Ok};
 ghost use Rattle.x690.specs.Elements.{IsDerElement};
-ghost use Rattle.asn1_rs.specs.Prelude.{IsCutIdentifier, seen};
-ghost use Rattle.asn1_headers.specs.Error.{IsCut};
+ghost use Rattle.asn1_rs.specs.Prelude.{IsTruncatedIdentifier, seen};
+ghost use Rattle.asn1_headers.specs.Error.{IsTruncated};
 ghost use Rattle.asn1_headers.specs.declared.error.Err.TheVariants.{Error as refused};
 ghost use Rattle.asn1_headers.specs.declared.error.Error.TheVariants as errors;
 ghost use Rattle.asn1_rs.specs.Any.{RefusalLasts};
@@ -38,9 +38,9 @@ pub fn next_message<'a, T: FromDer<'a, Error>>(
 ) -> ParseResult<'a, T, Error>
     ensures message { IfOk (seen result) (λ x. T.der_gives buffer.now (Ok x)) }
     ensures waits { IfErr (seen result)
-        (λ r. IsCut r → RefusalLasts IsDerElement IsCutIdentifier buffer.now r) }
-    ensures awaited { IfErr (seen result) (λ r. IsCut r → IsAwaited buffer.now r) }
-    ensures refused { IfErr (seen result) (λ r. IsCut r ⊎ NoElementBegins buffer.now ⊎
+        (λ r. IsTruncated r → RefusalLasts IsDerElement IsTruncatedIdentifier buffer.now r) }
+    ensures awaited { IfErr (seen result) (λ r. IsTruncated r → IsAwaited buffer.now r) }
+    ensures refused { IfErr (seen result) (λ r. IsTruncated r ⊎ NoElementBegins buffer.now ⊎
         (AnElementBegins buffer.now × RefusesMessage T.der_gives buffer.now r)) }
 {
     any_is_the_element();

@@ -1,6 +1,6 @@
 //! A lawful type of a caller's that holds a lawful value, tag and all, and hands every call on to it.
 ghost use Rattle.std.specs.Prelude.{◌≡◌, pos};
-ghost use Rattle.asn1_rs.specs.Prelude.{Exactly, IsCutIdentifier, seen};
+ghost use Rattle.asn1_rs.specs.Prelude.{Exactly, IsTruncatedIdentifier, seen};
 ghost use Rattle.asn1_rs.specs.Kinds.{HoldingGives, HoldingReads};
 ghost use Rattle.asn1_rs.specs.Laws.Kinds.{held_takes, held_reads, held_no_memory};
 ghost use Rattle.asn1_rs_uses.specs.Numbers.{NoMemory};
@@ -90,7 +90,7 @@ impl<T: LawfulMember> LawfulMember for Field<T> {
 
 /// The version at the front of the octets, by DER, and what follows it.
 pub fn read_version(alloc: Global, octets: &[u8]) -> ParseResult<'_, Version, Error>
-    ensures { Exactly IsCutIdentifier VersionByDer (λ version. pos version.0.inner) NoMemory
+    ensures { Exactly IsTruncatedIdentifier VersionByDer (λ version. pos version.0.inner) NoMemory
         octets.now (seen result) }
 {
     read_der::<Version, Error>(alloc, octets)

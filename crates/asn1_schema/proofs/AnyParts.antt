@@ -2,14 +2,14 @@
 use Rattle.std.proofs.Common.{◌≡◌, ◌≢◌, ◌∙◌, ap, sym, subst, refl, ℕ, zero, suc, ◌-◌, inl, inr, true, false, List, [], ◌∷◌, ◌++◌, arith}
 use Rattle.std.specs.List.{concat}
 use Rattle.x690.specs.Elements.{Parts, IsDerElement}
-use Rattle.x690.specs.Joined.{NoFront, AreWords, AreJoinedWords}
+use Rattle.x690.specs.Joined.{NoPrefix, AreWords, AreConcatenatedWords}
 use Rattle.asn1_headers.specs.Answers.{Front}
 use Rattle.asn1_schema.specs.Rules.{IsStrictInside, der}
 use Rattle.asn1_schema.proofs.OneValue.{same_front, some_octets}
 use Rattle.asn1_schema.proofs.Lawful.{der_lawful}
 
 abbrev pub AreStrict : ℕ → List ℕ → Type 0
-AreStrict depth octets = AreJoinedWords (λ word q. IsDerElement word q × IsStrictInside depth q) octets
+AreStrict depth octets = AreConcatenatedWords (λ word q. IsDerElement word q × IsStrictInside depth q) octets
 
 pub inside_primitive : (depth : ℕ) (p : Parts) → p.id.constructed ≡ false → IsStrictInside depth p
 inside_primitive zero p c = c
@@ -46,7 +46,7 @@ module _ (depth : ℕ) (rest tail : List ℕ) (p : Parts) (f : Front IsDerElemen
           let u = same_front der der_lawful rest w f.word (concat words) tail b.0.0 p b.0.1.0 f.fits e f.is in
           ((words, b.1, sym u.1), subst (IsStrictInside depth) u.0 b.0.1.1)
 
-pub strict_none : (depth : ℕ) (rest : List ℕ) → (rest ≡ [] → ⊥) → NoFront IsDerElement rest → AreStrict depth rest → ⊥
+pub strict_none : (depth : ℕ) (rest : List ℕ) → (rest ≡ [] → ⊥) → NoPrefix IsDerElement rest → AreStrict depth rest → ⊥
 strict_none depth rest some n a = by_words a.0 a.1 a.2
   where
     by_words : (words : List (List ℕ)) → AreWords (λ word q. IsDerElement word q × IsStrictInside depth q) words →

@@ -46,9 +46,9 @@ module _ (xs : List Item) (kept : Kept) (rest : List Mark) (e : marks xs ≡ tap
       ∙ ap (λ (i : ℕ). drop i (tape_of kept ++ rest)) is ∙ drop-append_seam (tape_of kept) rest
 
   -- so it is where no more is cut off than there is
-  pub value_cut : (n : ℕ) → n ≡ min (marks_of_first (marks xs)) (length xs) →
+  pub value_truncated : (n : ℕ) → n ≡ min (marks_of_first (marks xs)) (length xs) →
       (marks (take n xs) ≡ tape_of kept) × (marks (drop n xs) ≡ rest)
-  value_cut n least =
+  value_truncated n least =
       let first = ap marks_of_first e ∙ first_is kept rest in
       let few = few_marks in
       let is : n ≡ length (tape_of kept) = omega (arith, least, first, few) in
@@ -56,9 +56,9 @@ module _ (xs : List Item) (kept : Kept) (rest : List Mark) (e : marks xs ≡ tap
 
 -- so of a field that is left out, which has one mark
 module _ (xs : List Item) (rest : List Mark) (e : marks xs ≡ absent_mark ∷ rest) where
-  pub absent_cut : (n : ℕ) → n ≡ min (marks_of_first (marks xs)) (length xs) →
+  pub absent_truncated : (n : ℕ) → n ≡ min (marks_of_first (marks xs)) (length xs) →
       (marks (take n xs) ≡ absent_mark ∷ []) × (marks (drop n xs) ≡ rest)
-  absent_cut n least =
+  absent_truncated n least =
       let l = length-map xs mark in
       let all = ap (λ (ms : List Mark). length ms) e in
       let first = ap marks_of_first e in

@@ -1,7 +1,7 @@
 -- What is decoded, and what is not.
 use Rattle.std.proofs.Common.{◌≡◌, ◌≢◌, ◌∙◌, ap, sym, subst, refl, arith, inl, inr, ℕ, ◌+◌, ◌≤◌, ◌<◌, List, [], ◌++◌, append-nil, length}
 use Rattle.std.specs.Prelude.{Some, None, Err}
-use Rattle.x690.specs.Joined.{NoFront}
+use Rattle.x690.specs.Joined.{NoPrefix}
 use Rattle.asn1_schema.specs.declared.coding.Coding.{Coding}
 use Rattle.asn1_schema.specs.declared.coding.Coding.TheVariants as codings
 use Rattle.asn1_schema.specs.declared.fault.Fault.{Fault}
@@ -10,7 +10,7 @@ use Rattle.asn1_schema.specs.declared.schema.Node.{Node}
 use Rattle.asn1_schema.specs.declared.tape.Item.{Item}
 use Rattle.asn1_schema.specs.Values.{Value}
 use Rattle.asn1_schema.specs.Tape.{marks, value_of, tape_of}
-use Rattle.asn1_schema.specs.Reading.{rules_of, IsWordOf, BeginsWord, ReadsFront, PutsFront, HasNoFront}
+use Rattle.asn1_schema.specs.Reading.{rules_of, IsWordOf, BeginsWord, ReadsFront, PutsFront, HasNoPrefix}
 use Rattle.asn1_schema.specs.Decoding.{HasNoWord, Decodes, DecodesWhole, IsFollowed, EndsWithin, TellsMissing}
 use Rattle.asn1_schema.proofs.StrictIsBer.{der_deeper, ber_deeper}
 use Rattle.asn1_schema.proofs.Taken.{refused_last, lawful_of}
@@ -27,34 +27,34 @@ module _ (e : Coding) (table : List Node) (depth t : ℕ) (octets : List ℕ) wh
   }
 
   -- no value begins the octets
-  pub none_decoded : HasNoFront (BeginsWord e table depth t octets) → NoFront (IsWordOf e table depth t) octets
+  pub none_decoded : HasNoPrefix (BeginsWord e table depth t octets) → NoPrefix (IsWordOf e table depth t) octets
   none_decoded none = λ word rest v begins w. none v rest (record { word = word; says = w; is = begins })
 
   pub not_decoded : (old new : List Item) (fault : Fault) → ReadsFront (BeginsWord e table depth t octets) old new (Err fault) →
-      fault ≢ faults.Memory → NoFront (IsWordOf e table depth t) octets
+      fault ≢ faults.Memory → NoPrefix (IsWordOf e table depth t) octets
   not_decoded old new faults.Memory a some = absurd (some refl)
   not_decoded old new faults.Refused a some = none_decoded a
   not_decoded old new faults.TooDeep a some = none_decoded a
 
-  no_element_no_word : (others : List ℕ) → NoFront (rules_of e).ElementOf (octets ++ others) →
-      NoFront (IsWordOf e table depth t) (octets ++ others)
+  no_element_no_word : (others : List ℕ) → NoPrefix (rules_of e).ElementOf (octets ++ others) →
+      NoPrefix (IsWordOf e table depth t) (octets ++ others)
   no_element_no_word others none = λ word rest v is w. none word rest w.parts is w.element
 
   -- a refusal is final
-  pub refused_for_good : NoFront (IsWordOf e table depth t) octets →
+  pub refused_for_good : NoPrefix (IsWordOf e table depth t) octets →
       TellsMissing (rules_of e).ElementOf (EndsWithin e octets) octets None →
       HasNoWord (IsWordOf e table depth t) (EndsWithin e octets) octets
   refused_for_good none tells = record { none = none; lasting = by_front tells }
     where
       by_front : TellsMissing (rules_of e).ElementOf (EndsWithin e octets) octets None → (EndsWithin e octets → ⊥) →
-          (others : List ℕ) → NoFront (IsWordOf e table depth t) (octets ++ others)
+          (others : List ℕ) → NoPrefix (IsWordOf e table depth t) (octets ++ others)
       by_front (inl whole) ends others = refused_last (rules_of e) (lawful_of e) table depth t octets others none whole
       by_front (inr never) ends others = no_element_no_word others (never ends others)
 
   -- so few octets do not suffice
-  pub still_cut : (n : ℕ) → TellsMissing (rules_of e).ElementOf (EndsWithin e octets) octets (Some n) →
-      (others : List ℕ) → length others < n → NoFront (IsWordOf e table depth t) (octets ++ others)
-  still_cut n lacks others few = no_element_no_word others (lacks others few)
+  pub still_truncated : (n : ℕ) → TellsMissing (rules_of e).ElementOf (EndsWithin e octets) octets (Some n) →
+      (others : List ℕ) → length others < n → NoPrefix (IsWordOf e table depth t) (octets ++ others)
+  still_truncated n lacks others few = no_element_no_word others (lacks others few)
 
   -- where no octets follow, they are one word
   pub decoded_whole : (rest : List ℕ) (tape : List Item) → rest ≡ [] →
@@ -80,7 +80,7 @@ word_deeper (codings.Ber max) table d f t l o v a = ber_deeper table max d f t l
 -- what is refused is refused to each depth
 pub no_depth_decodes : (e : Coding) (table : List Node) (depth t : ℕ) (octets : List ℕ) (old new : List Item) →
     ((d : ℕ) → depth ≤ d → ReadsFront (BeginsWord e table d t octets) old new (Err faults.Refused)) → (d : ℕ) →
-    NoFront (IsWordOf e table d t) octets
+    NoPrefix (IsWordOf e table d t) octets
 no_depth_decodes e table depth t octets old new none d = λ word rest v is w.
     none_decoded e table (d + depth) t octets (none (d + depth) (omega arith)) word rest v is
     (word_deeper e table d (d + depth) t (omega arith) word v w)

@@ -5,7 +5,7 @@ use Rattle.x690.specs.Identifiers.{Identifier}
 use Rattle.x690.specs.Lengths.{definite, indefinite}
 use Rattle.x690.specs.Elements.{Parts}
 use Rattle.x690.specs.Nested.{IsElement, IsNestedElement}
-use Rattle.x690.specs.Joined.{NoFront}
+use Rattle.x690.specs.Joined.{NoPrefix}
 use Rattle.asn1_headers.specs.Answers.{Front}
 use Rattle.asn1_headers.specs.Header.{identifier_of}
 use Rattle.asn1_headers.specs.Elements.{element_parts}
@@ -40,6 +40,6 @@ ber_front max octets rest content h id b f i y n =
     let same : element_parts h content ≡ (record { id = id; form = form_of b (length content); content = content }) = cc in
     subst (λ (z : Parts). Front (IsElement max) octets z rest) same f
 
-pub no_depth : (octets : List ℕ) → NoFront (IsElement 0) octets
+pub no_depth : (octets : List ℕ) → NoPrefix (IsElement 0) octets
 unfolding IsNestedElement
 no_depth octets word rest p e a = a.1

@@ -1,7 +1,7 @@
 -- DER, strict DER and BER are lawful rules.
 use Rattle.std.proofs.Common.{◌≡◌, refl, ℕ, Bool, true, false, List}
 use Rattle.x690.specs.Rules.{der_rule}
-use Rattle.x690.specs.Joined.{IsOneFront}
+use Rattle.x690.specs.Joined.{IsPrefixFree}
 use Rattle.x690.specs.Laws.Words.{definite_words, nested_words}
 use Rattle.asn1_schema.specs.declared.schema.Node.{Node}
 use Rattle.asn1_schema.specs.Grammar.{Word}
@@ -31,12 +31,12 @@ truth_one c false true s t = absurd (let e : t.0 ≡ 0 = cc (s, t.1) in t.2 e)
 pub ber_lawful : (max : ℕ) → AreLawfulRules (ber max)
 ber_lawful max = record { one = nested_words max; truth = truth_one }
 
-pub front_der : (table : List Node) → is_sound table ≡ true → (depth t : ℕ) → IsOneFront (Word der table depth t)
+pub front_der : (table : List Node) → is_sound table ≡ true → (depth t : ℕ) → IsPrefixFree (Word der table depth t)
 front_der = front_of_rules der der_lawful
 
-pub front_strict : (table : List Node) → is_sound table ≡ true → (depth t : ℕ) → IsOneFront (Word strict table depth t)
+pub front_strict : (table : List Node) → is_sound table ≡ true → (depth t : ℕ) → IsPrefixFree (Word strict table depth t)
 front_strict = front_of_rules strict strict_lawful
 
 pub front_ber : (table : List Node) → is_sound table ≡ true →
-    (max depth t : ℕ) → IsOneFront (Word (ber max) table depth t)
+    (max depth t : ℕ) → IsPrefixFree (Word (ber max) table depth t)
 front_ber table sound max depth t = front_of_rules (ber max) (ber_lawful max) table sound depth t

@@ -43,7 +43,7 @@ pub mod BitsLeft
 pub mod MadeElements
 pub mod LastMarks
 pub mod WrittenLeaves
-pub mod CutTapes
+pub mod TruncatedTapes
 pub mod WrittenStrings
 pub mod WrittenElements
 pub mod WrittenRows
@@ -58,3 +58,4 @@ pub mod WrittenBits
 pub mod WrittenTapes
 pub mod MembersCounted
 pub mod StrictWords
+pub mod Appended

@@ -220,14 +220,14 @@ mutual
       omega (arith, a, b, i, j)
 
 -- two ways to cut one list
-cut_two : (x y c d : List Mark) → x ++ y ≡ c ++ d →
+truncated_two : (x y c d : List Mark) → x ++ y ≡ c ++ d →
     ((e : List Mark) × (x ≡ c ++ e) × (d ≡ e ++ y)) ⊎ ((e : List Mark) × (c ≡ x ++ e) × (y ≡ e ++ d))
-cut_two [] y c d q = inr (c, refl, q)
-cut_two (m ∷ x) y [] d q = inl (m ∷ x, refl, sym q)
-cut_two (m ∷ x) y (n ∷ c) d q =
+truncated_two [] y c d q = inr (c, refl, q)
+truncated_two (m ∷ x) y [] d q = inl (m ∷ x, refl, sym q)
+truncated_two (m ∷ x) y (n ∷ c) d q =
     let first : m ≡ n = cc in
     let rest : x ++ y ≡ c ++ d = cc in
-    elim (cut_two x y c d rest) [
+    elim (truncated_two x y c d rest) [
       | inl a ↦ let s = a.1 in inl (a.0, cc, a.2)
       | inr a ↦ let s = a.1 in inr (a.0, cc, a.2)
     ]
@@ -235,7 +235,7 @@ cut_two (m ∷ x) y (n ∷ c) d q =
 -- what is cut off before the end of a list that is followed by one mark
 before_last : (x : List Mark) (last : Mark) (c d : List Mark) → d ≢ [] → x ++ last ∷ [] ≡ c ++ d →
     (e : List Mark) × (x ≡ c ++ e)
-before_last x last c d some q = elim (cut_two x (last ∷ []) c d q) [
+before_last x last c d some q = elim (truncated_two x (last ∷ []) c d q) [
   | inl a ↦ (a.0, a.1)
   | inr a ↦ by_rest a.0 a.1 a.2
 ]
@@ -313,7 +313,7 @@ mutual
       let rest : tapes_of vs ≡ c ++ d = cc in
       let i = row_open vs c d rest in
       subst (λ (z : Mark). closes (z ∷ c) ≤ opens (z ∷ c)) first (omega (arith, i))
-  row_open (kept_more v vs) (m ∷ c) d q = elim (cut_two (tape_of v) (tapes_of vs) (m ∷ c) d q) [
+  row_open (kept_more v vs) (m ∷ c) d q = elim (truncated_two (tape_of v) (tapes_of vs) (m ∷ c) d q) [
     | inl a ↦ part_open v (λ x y f g h. front_open v x y f g h) (m ∷ c) a.0 a.1
     | inr a ↦
         let i = row_open vs a.0 d a.2 in
@@ -343,7 +343,7 @@ not_within v w (m ∷ e) q =
 
 -- a tape ends with that of one value, behind one front
 pub one_tape_back : (v w : Kept) (r s : List Mark) → r ++ tape_of v ≡ s ++ tape_of w → (v ≡ w) × (r ≡ s)
-one_tape_back v w r s q = elim (cut_two r (tape_of v) s (tape_of w) q) [
+one_tape_back v w r s q = elim (truncated_two r (tape_of v) s (tape_of w) q) [
   | inl a ↦
       let n = not_within w v a.0 a.2 in
       let t : tape_of w ≡ tape_of v = a.2 ∙ ap (λ (z : List Mark). z ++ tape_of v) n in

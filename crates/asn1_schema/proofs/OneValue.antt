@@ -4,7 +4,7 @@ use Rattle.std.specs.Prelude.{◌||◌, not, Option, Some, None, slice_get, if�
 use Rattle.std.specs.List.{concat}
 use Rattle.std.proofs.lemmas.List.{append_cancel_left}
 use Rattle.x690.specs.Elements.{Parts}
-use Rattle.x690.specs.Joined.{IsOneFront}
+use Rattle.x690.specs.Joined.{IsPrefixFree}
 use Rattle.x690.specs.Laws.Integers.{integer_content_one_value}
 use Rattle.x690.specs.Laws.Joined.{joined_same}
 use Rattle.asn1_schema.specs.Each.{Each}
@@ -31,11 +31,11 @@ nothing_in_front : (x y : List ℕ) → x ++ y ≡ [] → x ≡ []
 nothing_in_front [] y e = refl
 nothing_in_front (n ∷ x) y e = absurd (cc)
 
-nothing_begins : {V : Type 0} (G : List ℕ → V → Type 0) → IsOneFront G → (x y : List ℕ) (v : V) → G x v → x ++ y ≡ [] → ⊥
+nothing_begins : {V : Type 0} (G : List ℕ → V → Type 0) → IsPrefixFree G → (x y : List ℕ) (v : V) → G x v → x ++ y ≡ [] → ⊥
 nothing_begins G one x y v a e = one.some v (subst (λ (z : List ℕ). G z v) (nothing_in_front x y e) a)
 
 -- octets are words with one row of values
-pub each_one : (G : List ℕ → Value → Type 0) → IsOneFront G → (xs ys : List (List ℕ)) (vs ws : Values) → AreEach G xs vs →
+pub each_one : (G : List ℕ → Value → Type 0) → IsPrefixFree G → (xs ys : List (List ℕ)) (vs ws : Values) → AreEach G xs vs →
     AreEach G ys ws → concat xs ≡ concat ys → (xs ≡ ys) × (vs ≡ ws)
 each_one G one [] [] none none a b e = (refl, refl)
 each_one G one [] [] none (absent ws) a b e = absurd b
@@ -430,6 +430,6 @@ module _ (R : Rules) (lawful : AreLawfulRules R) where
 
 -- octets begin with one word of a type, which has one value
 pub front_of_rules : (R : Rules) → AreLawfulRules R → (table : List Node) → is_sound table ≡ true → (depth t : ℕ) →
-    IsOneFront (Word R table depth t)
+    IsPrefixFree (Word R table depth t)
 front_of_rules R lawful table sound depth t =
     says_front R lawful (Body R table depth t) (one_value R lawful table sound depth t)

@@ -6,7 +6,7 @@ use Rattle.x690.specs.Identifiers.{Identifier}
 use Rattle.x690.specs.Integers.{IsIntegerContent}
 use Rattle.x690.specs.Elements.{Parts, IsDerElement}
 use Rattle.x690.specs.Lengths.{definite}
-use Rattle.x690.specs.Joined.{IsJoined}
+use Rattle.x690.specs.Joined.{IsConcatenation}
 use Rattle.x690.specs.Laws.Joined.{joined_one}
 use Rattle.x690.specs.Strict.{element_octets}
 use Rattle.x690.specs.Laws.Integers.{integer_content_unique}
@@ -251,7 +251,7 @@ set_word Sub one unknown fs o u vs ws s a b =
     (each_joined IsDerElement IsDefinite (λ x p d. d.counted) o a.elements a.joins)
     (each_joined IsDerElement IsDefinite (λ x p d. d.counted) u b.elements b.joins) a.order b.order a.members b.members in
     joined_one IsDerElement (λ p x y c d. same_word x y p p c d (refl, refl)) b.elements o u
-    (subst (λ (z : List Parts). IsJoined IsDerElement o z) same a.joins) b.joins
+    (subst (λ (z : List Parts). IsConcatenation IsDerElement o z) same a.joins) b.joins
 
 -- strict strings are primitive
 primitive : {A : Type 0} (S : StringOf A) (depth : ℕ) (p : Parts) (xs : List A) → IsString strict S depth p xs →

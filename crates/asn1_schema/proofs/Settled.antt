@@ -4,7 +4,7 @@ use Rattle.std.specs.Prelude.{◌⊎◌, Option, Some, None, IfSome}
 use Rattle.std.proofs.lemmas.List.{append-nil}
 use Rattle.x690.specs.Identifiers.{Identifier}
 use Rattle.x690.specs.Elements.{Parts, IsDerElement}
-use Rattle.x690.specs.Joined.{IsJoined, NoFront}
+use Rattle.x690.specs.Joined.{IsConcatenation, NoPrefix}
 use Rattle.asn1_headers.specs.Answers.{Front}
 use Rattle.asn1_schema.specs.Grammar.{Takes}
 use Rattle.asn1_schema.specs.Each.{Each}
@@ -53,10 +53,10 @@ ascend_put last [] [] e a l c n = (l, tt)
 ascend_put last [] (x ∷ back) e a l c n = (l, (n x back refl, a.1))
 ascend_put last (x ∷ front) back e a l c n = (a.0, ascend_put (Some x.id) front back e a.1 c.0 c.1 n)
 
-pub joined_append : (one other : List ℕ) (front back : List Parts) → IsJoined IsDerElement one front →
-    IsJoined IsDerElement other back → IsJoined IsDerElement (one ++ other) (front ++ back)
+pub joined_append : (one other : List ℕ) (front back : List Parts) → IsConcatenation IsDerElement one front →
+    IsConcatenation IsDerElement other back → IsConcatenation IsDerElement (one ++ other) (front ++ back)
 joined_append one other [] back i j =
-    subst (λ (z : List ℕ). IsJoined IsDerElement (z ++ other) back) (sym i) j
+    subst (λ (z : List ℕ). IsConcatenation IsDerElement (z ++ other) back) (sym i) j
 joined_append one other (x ∷ front) back i j = (
   i.0,
   i.1 ++ other,
@@ -72,11 +72,11 @@ pub record RoomSoFar (e : Parts) (es : List Parts) (octets rest : List ℕ) : Ty
   pub passed : List ℕ
   pub is : es ≡ front ++ back
   pub less : Each (Before e) front
-  pub joins : IsJoined IsDerElement passed front
-  pub left : IsJoined IsDerElement rest back
+  pub joins : IsConcatenation IsDerElement passed front
+  pub left : IsConcatenation IsDerElement rest back
   pub octets_are : octets ≡ passed ++ rest
 
-pub room_begun : (e : Parts) (es : List Parts) (octets : List ℕ) → IsJoined IsDerElement octets es →
+pub room_begun : (e : Parts) (es : List Parts) (octets : List ℕ) → IsConcatenation IsDerElement octets es →
     RoomSoFar e es octets octets
 room_begun e es octets j =
     record { front = []; back = es; passed = []; is = refl; less = tt; joins = refl; left = j; octets_are = refl }
@@ -121,7 +121,7 @@ room_before e es octets rest tail p n s a l f b =
     let same : p ≡ x = (let first = u.1 in cc) in subst (λ (z : Parts). IsTagBefore e.id z.id) same b)
 
 pub room_at_end : (e : Parts) (es : List Parts) (octets rest : List ℕ) (n : ℕ) → (s : RoomSoFar e es octets rest) →
-    TagsAscend es → n ≡ length s.passed → NoFront IsDerElement rest → HasRoom e es octets (Some n)
+    TagsAscend es → n ≡ length s.passed → NoPrefix IsDerElement rest → HasRoom e es octets (Some n)
 room_at_end e es octets rest n s a l none =
     let over = none_joined strict strict_lawful rest s.back none s.left in
     room e es octets rest n s a l (λ x others is. absurd (cc))
@@ -142,7 +142,7 @@ pub one_id : (one rest : List ℕ) (e p : Parts) → Front IsDerElement one p re
 one_id one rest e p f d =
     ap (λ (z : Parts). z.id) (same_front strict strict_lawful one one f.word [] rest e p d f.fits (sym (append-nil one)) f.is).0
 
-pub not_one : (one : List ℕ) (e : Parts) → NoFront IsDerElement one → IsDerElement one e → ⊥
+pub not_one : (one : List ℕ) (e : Parts) → NoPrefix IsDerElement one → IsDerElement one e → ⊥
 not_one one e none d = none one [] e (sym (append-nil one)) d
 
 -- the element is moved there
@@ -150,7 +150,7 @@ pub moved : (e : Parts) (es : List Parts) (word others old new : List ℕ) (n : 
     IsDerElement word e →
     ((one other rest : List ℕ) → word ++ (others ++ old) ≡ one ++ (other ++ rest) → length word ≡ length one →
     n ≡ length other → new ≡ other ++ (one ++ rest)) → (all : List Parts) × (octets : List ℕ) × Takes all e es ×
-    TagsAscend all × IsJoined IsDerElement octets all × (new ≡ octets ++ old)
+    TagsAscend all × IsConcatenation IsDerElement octets all × (new ≡ octets ++ old)
 moved e es word others old new n r d move = (
   r.0 ++ e ∷ r.1,
   r.2 ++ (word ++ r.3),

@@ -87,13 +87,13 @@ module _ (table : List Node) (sound : is_sound table ≡ true) (depth t : ℕ) (
       f.some (same_rest octets f.rest (ap (λ (z : List ℕ). z ++ f.rest) (sym same.0) ∙ sym f.front.is))
 
   -- where a decoder refuses, the octets are no word
-  pub none_by_der : {cut : Type 0} {tape : List Item} {refusal : Refusal} (e : DecodeError) → e ≢ errors.OutOfMemory →
-      Fails {T = Unit {0}} table (λ d. Word der table d t) depth cut octets tape refusal (Err e) →
+  pub none_by_der : {truncated : Type 0} {tape : List Item} {refusal : Refusal} (e : DecodeError) → e ≢ errors.OutOfMemory →
+      Fails {T = Unit {0}} table (λ d. Word der table d t) depth truncated octets tape refusal (Err e) →
       (IsErrOf {T = Unit {0}} (Err e) errors.TrailingOctets → IsFollowed (Word der table depth t) octets) → (v : Value) →
       Word der table depth t octets v → ⊥
   none_by_der errors.OutOfMemory some fails trailing v w = absurd (some refl)
   none_by_der errors.Refused some fails trailing v w =
       (fails.refused refl depth).none octets [] v (sym (append-nil octets)) w
   none_by_der errors.TooDeep some fails trailing v w = (fails.too_deep refl).none octets [] v (sym (append-nil octets)) w
-  none_by_der (errors.Incomplete n) some fails trailing v w = fails.cut n refl octets [] v (sym (append-nil octets)) w
+  none_by_der (errors.Incomplete n) some fails trailing v w = fails.truncated n refl octets [] v (sym (append-nil octets)) w
   none_by_der errors.TrailingOctets some fails trailing v w = none_followed (trailing refl) v w

@@ -1,6 +1,6 @@
 -- Strings say one value.
 use Rattle.std.proofs.Common.{◌≡◌, ◌∙◌, ap, sym, subst, refl, ℕ, zero, suc, inl, inr, Bool, true, false, List, ◌∷◌, length}
-use Rattle.x690.specs.Joined.{IsOneFront}
+use Rattle.x690.specs.Joined.{IsPrefixFree}
 use Rattle.x690.specs.Laws.Joined.{joined_same}
 use Rattle.x690.specs.Elements.{Parts}
 use Rattle.asn1_schema.specs.Values.{joined}
@@ -9,7 +9,7 @@ use Rattle.asn1_schema.proofs.SameParts.{same_ends}
 
 -- what the laws of values ask of a set of rules
 pub record AreLawfulRules (R : Rules) : Type 0 where
-  pub one : IsOneFront R.ElementOf
+  pub one : IsPrefixFree R.ElementOf
   pub truth : (c : List ℕ) (a b : Bool) → R.Truth c a → R.Truth c b → a ≡ b
 
 -- an element has one value
@@ -18,7 +18,7 @@ HasOneValue {V} Sub = (p : Parts) (v w : V) → Sub p v → Sub p w → v ≡ w
 
 -- then words are told apart
 pub says_front : {V : Type 0} (R : Rules) → AreLawfulRules R → (Sub : Parts → V → Type 0) → HasOneValue Sub →
-    IsOneFront (Says R Sub)
+    IsPrefixFree (Says R Sub)
 says_front {V} R lawful Sub one = record {
   one = λ x y r s v w a b e.
       let u = lawful.one.one x y r s a.parts b.parts a.element b.element e in

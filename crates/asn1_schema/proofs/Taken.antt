@@ -6,7 +6,7 @@ use Rattle.std.proofs.lemmas.List.{append-nil, length-append}
 use Rattle.std.specs.declared.vec.Vec.{Vec}
 use Rattle.std.specs.declared.alloc.Global.{Global}
 use Rattle.x690.specs.Elements.{Parts, BeginsWithElement}
-use Rattle.x690.specs.Joined.{NoFront}
+use Rattle.x690.specs.Joined.{NoPrefix}
 use Rattle.asn1_headers.specs.Answers.{Front}
 use Rattle.asn1_schema.specs.declared.fault.Fault.{Fault}
 use Rattle.asn1_schema.specs.declared.fault.Fault.TheVariants as faults
@@ -20,7 +20,7 @@ use Rattle.asn1_schema.specs.Values.{Value, Values, leaf, row, chosen, measure}
 use Rattle.asn1_schema.specs.Grammar.{Rules, has_tag, Says, Begins, AreItems, AnyOrder, KindBody, IsOfNode, Through, Body, Word, IsMeasured}
 use Rattle.asn1_schema.specs.Tape.{kept_leaf, kept_chosen, Mark, mark, marks, arm_mark, arm_end_mark, value_of, tape_of}
 use Rattle.asn1_schema.specs.Sound.{is_sound, HasTagAt, arms_told, all_before, leads_back}
-use Rattle.asn1_schema.specs.Reading.{rules_of, Judges, PutsValue, ReadsValue, JudgesBounds, PutsFront, HasNoFront, ReadsFront, BeginsTagged}
+use Rattle.asn1_schema.specs.Reading.{rules_of, Judges, PutsValue, ReadsValue, JudgesBounds, PutsFront, HasNoPrefix, ReadsFront, BeginsTagged}
 use Rattle.asn1_schema.proofs.Depths.{unless, where_memory}
 use Rattle.asn1_schema.proofs.Bounded.{bounds_read}
 use Rattle.asn1_schema.proofs.Tags.{node_order, one_arm}
@@ -188,7 +188,7 @@ module _ (R : Rules) (lawful : AreLawfulRules R) where
       other (subst (λ (z : Parts). HasTagAt table t z.id) u.0 b.tagged)
 
   module _ (Sub : Parts → Value → Type 0) where
-    pub no_element : (octets : List ℕ) → NoFront R.ElementOf octets → HasNoFront (Begins R Sub octets)
+    pub no_element : (octets : List ℕ) → NoPrefix R.ElementOf octets → HasNoPrefix (Begins R Sub octets)
     no_element octets n v rest b = n b.word rest b.says.parts b.is b.says.element
 
     pub front_shorter : (octets rest : List ℕ) (p : Parts) → Front R.ElementOf octets p rest → length rest < length octets
@@ -202,7 +202,7 @@ module _ (R : Rules) (lawful : AreLawfulRules R) where
 
     -- no value begins octets where that of their first element is none
     no_value_no_front : (octets rest : List ℕ) (p : Parts) → Front R.ElementOf octets p rest →
-        ((v : Value) → Sub p v → ⊥) → HasNoFront (Begins R Sub octets)
+        ((v : Value) → Sub p v → ⊥) → HasNoPrefix (Begins R Sub octets)
     no_value_no_front octets rest p f n v r b =
         let u = same_front R lawful octets b.word f.word r rest b.says.parts p b.says.element f.fits b.is f.is in
         n v (subst (λ (z : Parts). Sub z v) u.0 b.says.value)
@@ -219,7 +219,7 @@ module _ (R : Rules) (lawful : AreLawfulRules R) where
         Front R.ElementOf octets p rest → ReadsValue {T = T} (Sub p) old mid (Err e) →
         ReadsFront (Begins R Sub octets) old new (Err e)
     front_refused T octets rest p old mid new e f a =
-        unless e ((v : Value) → Sub p v → ⊥) (HasNoFront (Begins R Sub octets)) (no_value_no_front octets rest p f) a
+        unless e ((v : Value) → Sub p v → ⊥) (HasNoPrefix (Begins R Sub octets)) (no_value_no_front octets rest p f) a
 
     -- the word that the octets are
     pub whole_read : (octets rest : List ℕ) (old new : List Item) → rest ≡ [] →
@@ -241,7 +241,7 @@ module _ (R : Rules) (lawful : AreLawfulRules R) where
     pub whole_refused : (T : Type 0) (octets : List ℕ) (old mid new : List Item) (e : Fault) →
         ReadsFront (Begins R Sub octets) old mid (Err e) → ReadsValue {T = T} (Says R Sub octets) old new (Err e)
     whole_refused T octets old mid new e a =
-        unless e (HasNoFront (Begins R Sub octets)) ((v : Value) → Says R Sub octets v → ⊥)
+        unless e (HasNoPrefix (Begins R Sub octets)) ((v : Value) → Says R Sub octets v → ⊥)
         (λ n v b. n v [] (record { word = octets; says = b; is = sym (append-nil octets) })) a
 
     -- a word is the contents octets of an explicit tag
@@ -358,8 +358,8 @@ bounds_order table t a lower upper node sound found is =
 
 -- Where an element begins the octets, a refusal is final: no word begins them, whatever follows.
 pub refused_last : (R : Rules) → AreLawfulRules R → (table : List Node) (depth t : ℕ) (octets behind : List ℕ) →
-    NoFront (Word R table depth t) octets → BeginsWithElement R.ElementOf octets →
-    NoFront (Word R table depth t) (octets ++ behind)
+    NoPrefix (Word R table depth t) octets → BeginsWithElement R.ElementOf octets →
+    NoPrefix (Word R table depth t) (octets ++ behind)
 refused_last R lawful table depth t octets behind n b = λ word rest v is w.
     let e : octets ++ behind ≡ b.0 ++ (b.1 ++ behind) =
     ap (λ (z : List ℕ). z ++ behind) b.4 ∙ append_assoc b.0 b.1 behind in

@@ -4,7 +4,7 @@ use Rattle.std.specs.Prelude.{Result, Ok, Err, map, OnOk, IfErr, slice_set}
 use Rattle.std.proofs.lemmas.List.{map-append, append-nil, length-append, length-map, length-drop, take_all, drop_at, drop-map}
 use Rattle.x690.specs.Lengths.{indefinite}
 use Rattle.x690.specs.Elements.{Parts}
-use Rattle.x690.specs.Joined.{NoFront, IsJoined}
+use Rattle.x690.specs.Joined.{NoPrefix, IsConcatenation}
 use Rattle.asn1_headers.specs.Answers.{Front}
 use Rattle.asn1_schema.specs.declared.fault.Fault.{Fault}
 use Rattle.asn1_schema.specs.declared.fault.Fault.TheVariants as faults
@@ -192,7 +192,7 @@ module _ (e : Coding) (s : Sort) (depth : ℕ) (All : List (Elem s) → Type 0) 
   }
     where
       in_front : (pieces : List (List (Elem s))) → AllButLast (string_of e s).Whole pieces →
-          IsJoined (Says (rules_of e) (IsPiece e (string_of e s) depth)) tail pieces → IsTrue next ⊎ (tail ≡ []) →
+          IsConcatenation (Says (rules_of e) (IsPiece e (string_of e s) depth)) tail pieces → IsTrue next ⊎ (tail ≡ []) →
           AllButLast (string_of e s).Whole (joined a.pieces ∷ pieces)
       in_front [] w j g = tt
       in_front (y ∷ ys) w j (inl n) = (a.whole.0 n, w)
@@ -200,7 +200,7 @@ module _ (e : Coding) (s : Sort) (depth : ℕ) (All : List (Elem s) → Type 0) 
           absurd (some_octets (rules_of e) lawful j.0 j.1 j.2.parts j.2.element (sym j.3 ∙ z))
 
       by_pieces : (pieces : List (List (Elem s))) → AllButLast (string_of e s).Whole pieces →
-          IsJoined (Says (rules_of e) (IsPiece e (string_of e s) depth)) rest pieces →
+          IsConcatenation (Says (rules_of e) (IsPiece e (string_of e s) depth)) rest pieces →
           (ys : List (Elem s)) × ArePieces e (string_of e s) depth tail ys × (IsTrue next ⊎ (tail ≡ []))
       by_pieces [] w c = absurd (some_octets (rules_of e) lawful f.word tail p f.fits (sym f.is ∙ c))
       by_pieces (x ∷ []) w c =
@@ -216,7 +216,7 @@ module _ (e : Coding) (s : Sort) (depth : ℕ) (All : List (Elem s) → Type 0) 
               y ∷ ys,
               refl,
               w.1,
-              subst (λ (z : List ℕ). IsJoined (Says (rules_of e) (IsPiece e (string_of e s) depth)) z (y ∷ ys)) u.1 c.4,
+              subst (λ (z : List ℕ). IsConcatenation (Says (rules_of e) (IsPiece e (string_of e s) depth)) z (y ∷ ys)) u.1 c.4,
             ),
             inl (a.whole.1 (subst (string_of e s).Whole same w.0)),
           )
@@ -229,17 +229,17 @@ module _ (e : Coding) (s : Sort) (depth : ℕ) (All : List (Elem s) → Type 0) 
       (λ n xs b. let c = so.back xs b in by_pieces n c.1.0 c.1.3) a
     where
       by_pieces : ((xs : List (Elem s)) → IsPiece e (string_of e s) depth p xs → ⊥) → (pieces : List (List (Elem s))) →
-          IsJoined (Says (rules_of e) (IsPiece e (string_of e s) depth)) rest pieces → ⊥
+          IsConcatenation (Says (rules_of e) (IsPiece e (string_of e s) depth)) rest pieces → ⊥
       by_pieces n [] c = some c
       by_pieces n (x ∷ pieces) c =
           let u = same_front (rules_of e) lawful rest c.0 f.word c.1 tail c.2.parts p c.2.element f.fits c.3 f.is in
           n x (subst (λ (z : Parts). IsPiece e (string_of e s) depth z x) u.0 c.2.value)
 
-  pub no_piece : (rest ≡ [] → ⊥) → NoFront (rules_of e).ElementOf rest → (xs : List (Elem s)) → All xs → ⊥
+  pub no_piece : (rest ≡ [] → ⊥) → NoPrefix (rules_of e).ElementOf rest → (xs : List (Elem s)) → All xs → ⊥
   no_piece some n xs b = let c = so.back xs b in by_pieces c.1.0 c.1.3
     where
       by_pieces : (pieces : List (List (Elem s))) →
-          IsJoined (Says (rules_of e) (IsPiece e (string_of e s) depth)) rest pieces → ⊥
+          IsConcatenation (Says (rules_of e) (IsPiece e (string_of e s) depth)) rest pieces → ⊥
       by_pieces [] c = some c
       by_pieces (x ∷ pieces) c = n c.0 c.1 c.2.parts c.3 c.2.element
 

@@ -18,7 +18,7 @@ use Rattle.asn1_schema.specs.Values.{Value, Values, row, none, absent, more}
 use Rattle.asn1_schema.specs.Grammar.{Rules, Says, Begins, AreEach, AreItems, AnyOrder, AreUnknown, AreFields, LeftOut, MayStand, IsThere}
 use Rattle.asn1_schema.specs.Tape.{KeptRow, kept_row, kept_none, kept_absent, kept_more, Mark, marks, begin_mark, end_mark, absent_mark, between, value_of, values_of, tape_of, tapes_of}
 use Rattle.asn1_schema.specs.Sound.{HasTagAt, node_at, field_told, fields_told, may_be_left_out}
-use Rattle.asn1_schema.specs.Reading.{PutsValue, ReadsValue, PutsRow, ReadsRow, PutsFront, HasNoFront, ReadsFront, BeginsTagged, Leaves, LeavesOut, MayNot, IsMissing, ReadsField, UnlessMemory}
+use Rattle.asn1_schema.specs.Reading.{PutsValue, ReadsValue, PutsRow, ReadsRow, PutsFront, HasNoPrefix, ReadsFront, BeginsTagged, Leaves, LeavesOut, MayNot, IsMissing, ReadsField, UnlessMemory}
 use Rattle.asn1_schema.specs.Members.{ReadsLeftOut}
 use Rattle.asn1_schema.proofs.Depths.{unless, where_memory}
 use Rattle.asn1_schema.proofs.Tags.{first_holds, of_optional}
@@ -166,7 +166,7 @@ module _ (R : Rules) (lawful : AreLawfulRules R) where
             (vs, record { words = words; is = sym u.1; each = a.1; order = tt })
 
     -- nothing is left where no value begins what is left, but for none at all
-    no_items : (octets : List ℕ) → (octets ≡ [] → ⊥) → HasNoFront (Begins R Sub octets) → (vs : Values) →
+    no_items : (octets : List ℕ) → (octets ≡ [] → ⊥) → HasNoPrefix (Begins R Sub octets) → (vs : Values) →
         AreItems R Sub AnyOrder octets vs → ⊥
     no_items octets some n vs a = by_words a.words vs a.is a.each
       where
@@ -180,7 +180,7 @@ module _ (R : Rules) (lawful : AreLawfulRules R) where
         (rest ≡ [] → ⊥) → SoFar (AreItems R Sub AnyOrder rest) Whole old mid →
         ReadsFront (Begins R Sub rest) mid new (Err e) → ReadsRow {T = T} Whole old new (Err e)
     items_refused T Whole rest old mid new e some s a =
-        unless e (HasNoFront (Begins R Sub rest)) ((vs : Values) → Whole vs → ⊥)
+        unless e (HasNoPrefix (Begins R Sub rest)) ((vs : Values) → Whole vs → ⊥)
         (λ n. refused (AreItems R Sub AnyOrder rest) Whole old mid s (no_items rest some n)) a
 
     pub items_done : (Whole : Values → Type 0) (rest : List ℕ) (old mid : List Item) → rest ≡ [] →
@@ -377,7 +377,7 @@ module _ (R : Rules) (lawful : AreLawfulRules R) where
           why = inl (record { word = f.word; rest = rest; parts = p; element = f.fits; is = f.is; tagged = h });
         }) a
 
-    pub no_tag : (t : ℕ) (octets : List ℕ) → (BeginsTagged R table t octets → ⊥) → HasNoFront (Begins R (Sub t) octets)
+    pub no_tag : (t : ℕ) (octets : List ℕ) → (BeginsTagged R table t octets → ⊥) → HasNoPrefix (Begins R (Sub t) octets)
     no_tag t octets n v rest b = n (begun t octets v rest b)
 
     pub field_away : (presence : Presence) (t : ℕ) (octets : List ℕ) (e : Fault) → (BeginsTagged R table t octets → ⊥) →

@@ -7,7 +7,7 @@ use Rattle.std.proofs.lemmas.List.Elements.{filter-append}
 use Rattle.std.proofs.lemmas.List.Folds.{list_any-append}
 use Rattle.x690.specs.Identifiers.{Identifier}
 use Rattle.x690.specs.Elements.{Parts}
-use Rattle.x690.specs.Joined.{NoFront, IsJoined}
+use Rattle.x690.specs.Joined.{NoPrefix, IsConcatenation}
 use Rattle.x690.specs.Laws.Joined.{joined_same}
 use Rattle.asn1_headers.specs.Answers.{Front}
 use Rattle.asn1_schema.specs.declared.fault.Fault.{Fault}
@@ -41,19 +41,19 @@ use Rattle.asn1_schema.proofs.TakenRows.{SoFar, nothing_yet, ended, join_none, f
 module _ (R : Rules) (lawful : AreLawfulRules R) where
   -- the element at the front is the first one
   pub front_joined : (octets rest : List ℕ) (p : Parts) (es : List Parts) → Front R.ElementOf octets p rest →
-      IsJoined R.ElementOf octets es → (left : List Parts) × (es ≡ p ∷ left) × IsJoined R.ElementOf rest left
+      IsConcatenation R.ElementOf octets es → (left : List Parts) × (es ≡ p ∷ left) × IsConcatenation R.ElementOf rest left
   front_joined octets rest p [] f j = absurd (some_octets R lawful f.word rest p f.fits (sym f.is ∙ j))
   front_joined octets rest p (e ∷ es) f j =
       let u = same_front R lawful octets j.0 f.word j.1 rest e p j.2 f.fits j.3 f.is in
-      (es, ap (λ (z : Parts). z ∷ es) u.0, subst (λ (z : List ℕ). IsJoined R.ElementOf z es) u.1 j.4)
+      (es, ap (λ (z : Parts). z ∷ es) u.0, subst (λ (z : List ℕ). IsConcatenation R.ElementOf z es) u.1 j.4)
 
   -- where there is none, there are none at all
-  pub none_joined : (octets : List ℕ) (es : List Parts) → NoFront R.ElementOf octets → IsJoined R.ElementOf octets es →
+  pub none_joined : (octets : List ℕ) (es : List Parts) → NoPrefix R.ElementOf octets → IsConcatenation R.ElementOf octets es →
       es ≡ []
   none_joined octets [] n j = refl
   none_joined octets (e ∷ es) n j = absurd (n j.0 j.1 e j.3 j.2)
 
-  pub nothing_joined : (octets : List ℕ) (es : List Parts) → octets ≡ [] → IsJoined R.ElementOf octets es → es ≡ []
+  pub nothing_joined : (octets : List ℕ) (es : List Parts) → octets ≡ [] → IsConcatenation R.ElementOf octets es → es ≡ []
   nothing_joined octets [] n j = refl
   nothing_joined octets (e ∷ es) n j = absurd (some_octets R lawful j.0 j.1 e j.2 (sym j.3 ∙ n))
 
@@ -104,9 +104,9 @@ pub order_broken : (e : Coding) (octets : List ℕ) (last : Option Head) (rest t
 order_broken e octets last rest tail content head s f n a =
     n (ordered_less e last rest tail content head f (s.back a)).0
 
-pub order_cut : (e : Coding) (octets : List ℕ) (last : Option Head) (rest : List ℕ) → OrderSoFar e octets last rest →
-    NoFront (rules_of e).ElementOf rest → (rest ≡ [] → ⊥) → AreOrdered e None octets → ⊥
-order_cut e octets last rest s n some a =
+pub order_truncated : (e : Coding) (octets : List ℕ) (last : Option Head) (rest : List ℕ) → OrderSoFar e octets last rest →
+    NoPrefix (rules_of e).ElementOf rest → (rest ≡ [] → ⊥) → AreOrdered e None octets → ⊥
+order_truncated e octets last rest s n some a =
     let b = s.back a in
     let none = none_joined (rules_of e) (lawful_of e) rest b.elements n b.joins in
     some (subst (λ (z : List Parts). AreElements e rest z) none b.joins)
@@ -170,7 +170,7 @@ first_found e table t rest tail content head es s f h =
     }
 
 pub first_missed : (e : Coding) (table : List Node) (t : ℕ) (rest : List ℕ) (es : List Parts) →
-    FirstSoFar e table t rest es → NoFront (rules_of e).ElementOf rest → Each (Lacks table t) es
+    FirstSoFar e table t rest es → NoPrefix (rules_of e).ElementOf rest → Each (Lacks table t) es
 first_missed e table t rest es s n =
     let over = none_joined (rules_of e) (lawful_of e) rest s.left n s.joins in
     subst (Each (Lacks table t)) (sym (s.is ∙ (ap (λ (z : List Parts). s.done ++ z) over ∙ append-nil s.done))) s.lacking
@@ -583,7 +583,7 @@ module _ (e : Coding) (table : List Node) (depth : ℕ) (fields : List Field) wh
   others_none (Some t) = tt
 
   pub others_done : (unknown : Option ℕ) (rest : List ℕ) (es : List Parts) (old new : List Item) →
-      OthersSoFar e table Sub unknown fields rest es old new → NoFront (rules_of e).ElementOf rest →
+      OthersSoFar e table Sub unknown fields rest es old new → NoPrefix (rules_of e).ElementOf rest →
       PutsRow (AreOthers Sub unknown (others_than table fields es)) old new
   others_done unknown rest es old new s n =
       let over = none_joined (rules_of e) (lawful_of e) rest s.left n s.joins in

@@ -3,7 +3,7 @@ use Rattle.std.proofs.Common.{◌≡◌, ◌∙◌, ap, sym, subst, refl, ℕ, �
 use Rattle.std.specs.Prelude.{◌⊎◌, Option, Some, None, IfSome}
 use Rattle.x690.specs.Identifiers.{Identifier}
 use Rattle.x690.specs.Elements.{Parts}
-use Rattle.x690.specs.Joined.{IsJoined}
+use Rattle.x690.specs.Joined.{IsConcatenation}
 use Rattle.asn1_schema.specs.Grammar.{Takes}
 use Rattle.asn1_schema.specs.Each.{Each}
 use Rattle.asn1_schema.specs.Rules.{IsTagBefore, AscendBehind}
@@ -155,6 +155,6 @@ one_put es us e others left s t u a b =
 
 -- each element has its word
 pub each_joined : (G : List ℕ → Parts → Type 0) (P : Parts → Type 0) → ((o : List ℕ) (p : Parts) → G o p → P p) →
-    (octets : List ℕ) (es : List Parts) → IsJoined G octets es → Each P es
+    (octets : List ℕ) (es : List Parts) → IsConcatenation G octets es → Each P es
 each_joined G P f octets [] j = tt
 each_joined G P f octets (e ∷ es) j = (f j.0 e j.2, each_joined G P f j.1 es j.4)

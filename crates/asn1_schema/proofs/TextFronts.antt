@@ -32,8 +32,8 @@ utf8_behind : (xs ys : List ℕ) → IsUtf8 xs → IsUtf8 (xs ++ ys) → IsUtf8 
 utf8_behind xs ys v u =
     let n = length xs in
     let within : n ≤ length (xs ++ ys) = let l = length-append xs ys in omega (arith, l) in
-    let cut = IsCharBoundary-from_take (xs ++ ys) n u within (subst IsUtf8 (sym (take_at xs ys n refl)) v) in
-    subst IsUtf8 (drop_at xs ys n refl) (IsUtf8-drop (xs ++ ys) n u cut)
+    let truncated = IsCharBoundary-from_take (xs ++ ys) n u within (subst IsUtf8 (sym (take_at xs ys n refl)) v) in
+    subst IsUtf8 (drop_at xs ys n refl) (IsUtf8-drop (xs ++ ys) n u truncated)
 
 parted : (w rest : List ℕ) (n : ℕ) → w ++ rest ≡ take n w ++ (drop n w ++ rest)
 parted w rest n = ap (λ (z : List ℕ). z ++ rest) (sym (take-append-drop n w)) ∙ append_assoc (take n w) (drop n w) rest

@@ -22,7 +22,7 @@ use Rattle.asn1_schema.proofs.OneTape.{one_tape_back}
 use Rattle.asn1_schema.proofs.BitContents.{digits_length, bits_length}
 use Rattle.asn1_schema.proofs.BitsTaken.{bits_taken}
 use Rattle.asn1_schema.proofs.UnusedBits.{bits_append}
-use Rattle.asn1_schema.proofs.CutTapes.{before_cut}
+use Rattle.asn1_schema.proofs.TruncatedTapes.{before_truncated}
 use Rattle.asn1_schema.proofs.WrittenLeaves.{grew_on}
 use Rattle.asn1_schema.proofs.WrittenStrings.{pieces_closed, one_piece_more}
 use Rattle.asn1_schema.proofs.DigitsJoined.{digits_joined, less_joined, front_small, front_digits, zero_digits, one_octet_bits}
@@ -278,7 +278,7 @@ bits_leaf_written tape at old new some j = by_pieces j.pieces j.puts j.said
 pub never_bits : (tape : List Item) (at : ℕ) → 0 < at → at ≤ length tape → NoPieces bits tape (at - 1) at →
     (bs : List Bool) (r : List Mark) → before tape at ≡ r ++ leaf_mark (bits bs) ∷ [] → ⊥
 never_bits tape at some fits n bs r e =
-    let f = before_cut tape (at - 1) at r (leaf_mark (bits bs) ∷ []) fits e (omega (arith, some)) in
+    let f = before_truncated tape (at - 1) at r (leaf_mark (bits bs) ∷ []) fits e (omega (arith, some)) in
     n (bs ∷ []) (e ∙ ap (λ (z : List Mark). z ++ leaf_mark (bits bs) ∷ []) (sym f))
 
 -- what contents octets of bits say

@@ -20,7 +20,7 @@ use Rattle.asn1_schema.specs.Tape.{Kept, KeptRow, kept_row, kept_none, kept_abse
 use Rattle.asn1_schema.specs.Writing.{before, PutsWord, NoneAtEnd, Writes, PutsFields, NoRowAtEnd, WritesRow, NoFieldAtEnd, PutsField, WritesField, Omits, WritesDefault, members, AreCounted, WrittenSoFar, BeginsRow, row_behind}
 use Rattle.asn1_schema.proofs.OneWord.{one_word}
 use Rattle.asn1_schema.proofs.SameParts.{same_last}
-use Rattle.asn1_schema.proofs.CutTapes.{length_before}
+use Rattle.asn1_schema.proofs.TruncatedTapes.{length_before}
 use Rattle.asn1_schema.proofs.LastMarks.{ends, row_kept, rows_back}
 use Rattle.asn1_schema.proofs.WrittenLeaves.{grew_on}
 

@@ -6,7 +6,7 @@ use Rattle.std.proofs.lemmas.List.{nil_from_length}
 use Rattle.x690.specs.Octets.{IsOctets}
 use Rattle.x690.specs.Rules.{der_rule}
 use Rattle.x690.specs.Elements.{Parts, IsDerElement}
-use Rattle.x690.specs.Joined.{IsJoined}
+use Rattle.x690.specs.Joined.{IsConcatenation}
 use Rattle.x690.specs.Laws.Elements.{definite_element_is_octets}
 use Rattle.x690.specs.Laws.Joined.{joined_octets}
 use Rattle.x690.specs.Laws.Octets.{below_octets, octets_append}
@@ -146,12 +146,12 @@ module _ (table : List Node) (depth : ℕ) (unknown : Option ℕ) where
 
   -- unknown elements
   unknown_others : (mark : Option ℕ) (o : List ℕ) (es : List Parts) (vs : Values) → AreUnknown strict Sub mark o vs →
-      IsJoined IsDerElement o es → AreOthers Sub mark es vs
+      IsConcatenation IsDerElement o es → AreOthers Sub mark es vs
   unknown_others None o es vs a j = (nothing_joined strict strict_lawful o es a.0 j, a.1)
   unknown_others (Some t) o es vs a j = by_words a.words vs o es a.is a.each j
     where
       by_words : (words : List (List ℕ)) (vs : Values) (o : List ℕ) (es : List Parts) → o ≡ concat words →
-          AreEach (Says strict (Sub t)) words vs → IsJoined IsDerElement o es → AreEach (Sub t) es vs
+          AreEach (Says strict (Sub t)) words vs → IsConcatenation IsDerElement o es → AreEach (Sub t) es vs
       by_words [] none o [] is a j = tt
       by_words [] none o (e ∷ es) is a j =
           absurd (some_octets strict strict_lawful j.0 j.1 e j.2 (sym j.3 ∙ is))
@@ -166,12 +166,12 @@ module _ (table : List Node) (depth : ℕ) (unknown : Option ℕ) where
           (subst (λ (z : Parts). Sub t z v) u.0 a.0.value, by_words words vs j.1 es (sym u.1) a.1 j.4)
 
   unknown_joined : (mark : Option ℕ) (o : List ℕ) (vs : Values) → AreUnknown strict Sub mark o vs →
-      (es : List Parts) × IsJoined IsDerElement o es
+      (es : List Parts) × IsConcatenation IsDerElement o es
   unknown_joined None o vs a = ([], a.0)
   unknown_joined (Some t) o vs a = by_words a.words vs o a.is a.each
     where
       by_words : (words : List (List ℕ)) (vs : Values) (o : List ℕ) → o ≡ concat words →
-          AreEach (Says strict (Sub t)) words vs → (es : List Parts) × IsJoined IsDerElement o es
+          AreEach (Says strict (Sub t)) words vs → (es : List Parts) × IsConcatenation IsDerElement o es
       by_words [] vs o is a = ([], is)
       by_words (w ∷ words) none o is a = absurd a
       by_words (w ∷ words) (absent vs) o is a = absurd a
@@ -186,8 +186,8 @@ module _ (table : List Node) (depth : ℕ) (unknown : Option ℕ) where
       AreOrdered codings.Der None front → SetSoFar count fields fields tape at place old mid
   set_begun count fields tape at place old mid front held h w f a =
       let is = f w.1.octets old w.1.put h in
-      let joins : IsJoined IsDerElement w.1.octets a.elements =
-      subst (λ (z : List ℕ). IsJoined IsDerElement z a.elements) is a.joins in
+      let joins : IsConcatenation IsDerElement w.1.octets a.elements =
+      subst (λ (z : List ℕ). IsConcatenation IsDerElement z a.elements) is a.joins in
       record {
         done = [];
         parts = sym (append-nil fields);
@@ -265,7 +265,7 @@ module _ (table : List Node) (depth : ℕ) (unknown : Option ℕ) where
         (unknown_others unknown w.1.octets j.0 (values_of w.1.kept) w.1.holds.0 j.1) in
         n (record {
           elements = j.0;
-          joins = subst (λ (z : List ℕ). IsJoined IsDerElement z j.0) (sym (f w.1.octets old w.1.put h)) j.1;
+          joins = subst (λ (z : List ℕ). IsConcatenation IsDerElement z j.0) (sym (f w.1.octets old w.1.put h)) j.1;
           order = subst TagsAscend same m.2;
         }),
     (w.1.octets, w.1.put),
@@ -304,7 +304,7 @@ module _ (table : List Node) (depth : ℕ) (unknown : Option ℕ) where
       (held_is : held ≡ length old) (behind_is : behind ≡ length mid)
       (nothing : length new ≡ behind → (result ≡ true) × (last ≡ new))
       (settled : (word others old : List ℕ) (e : Parts) (es : List Parts) → new ≡ word ++ (others ++ old) →
-      behind ≡ length (others ++ old) → held ≡ length old → IsDerElement word e → IsJoined IsDerElement others es →
+      behind ≡ length (others ++ old) → held ≡ length old → IsDerElement word e → IsConcatenation IsDerElement others es →
       TagsAscend es → Settles e es old last result) where
     abbrev row : PutsFields (AreCountedSet table depth unknown count s.done) (before tape at) (before tape rest) old mid
     row = s.row

@@ -17,7 +17,7 @@ use Rattle.asn1_schema.specs.Tape.{Sort, of_octets, of_text, of_time, string, pi
 use Rattle.asn1_schema.specs.Writing.{before, NoneAtEnd, Writes, IsContent, IsPlainString, TakesPieces, JoinsPieces, NoPieces, BeginPieces}
 use Rattle.asn1_schema.proofs.SameParts.{same_last}
 use Rattle.asn1_schema.proofs.OneTape.{one_tape_back}
-use Rattle.asn1_schema.proofs.CutTapes.{length_before, before_cut, cut, last_of}
+use Rattle.asn1_schema.proofs.TruncatedTapes.{length_before, before_truncated, truncated, last_of}
 
 -- a value that is a string stands as a leaf or in pieces
 pub string_shape : (s : Sort) (k : Kept) (o : List ℕ) → value_of k ≡ leaf (string s o) →
@@ -77,9 +77,9 @@ module _ {A : Type 0} (make : List A → Leaf) (tape : List Item) where
       }
 
   -- the marks of pieces, by the last one of those at the front
-  cut_marks : (all heads backs init : List (List A)) (x : List A) → all ≡ heads ++ backs → heads ≡ init ++ x ∷ [] →
+  truncated_marks : (all heads backs init : List (List A)) (x : List A) → all ≡ heads ++ backs → heads ≡ init ++ x ∷ [] →
       all_marks all ≡ (all_marks init ++ leaf_mark (make x) ∷ []) ++ all_marks backs
-  cut_marks all heads backs init x e f =
+  truncated_marks all heads backs init x e f =
       ap all_marks e ∙ (map-append (λ y. leaf_mark (make y)) heads backs
       ∙ ap (λ (z : List Mark). z ++ all_marks backs)
       (ap all_marks f ∙ map-append (λ y. leaf_mark (make y)) init (x ∷ [])))
@@ -90,8 +90,8 @@ module _ {A : Type 0} (make : List A → Leaf) (tape : List Item) where
       length backs + rest ≡ end → before tape rest ≡ (before tape start ++ all_marks init) ++ leaf_mark (make x) ∷ []
   piece_before start rest end all heads backs init x fits e f g l =
       let size = length-map backs (λ y. leaf_mark (make y)) in
-      before_cut tape rest end ((before tape start ++ all_marks init) ++ leaf_mark (make x) ∷ []) (all_marks backs) fits
-      (e ∙ (ap (λ (z : List Mark). before tape start ++ z) (cut_marks all heads backs init x f g)
+      before_truncated tape rest end ((before tape start ++ all_marks init) ++ leaf_mark (make x) ∷ []) (all_marks backs) fits
+      (e ∙ (ap (λ (z : List Mark). before tape start ++ z) (truncated_marks all heads backs init x f g)
       ∙ regrouped (before tape start) (all_marks init) (all_marks backs) (leaf_mark (make x)))) (omega (arith, size, l))
 
   -- where no piece stands before a place, there are no such pieces
@@ -106,7 +106,7 @@ module _ {A : Type 0} (make : List A → Leaf) (tape : List Item) where
       let a = ap length e ∙ length-append (before tape start) (all_marks all) in
       let la = length-map all (λ y. leaf_mark (make y)) in
       let count : length all + start ≡ end = omega (arith, n, m, a, la) in
-      let u = cut (rest - start) all (omega (arith, count, less, w)) in
+      let u = truncated (rest - start) all (omega (arith, count, less, w)) in
       let few = u.3 in
       let others = u.4 in
       let v = last_of u.0 (omega (arith, few, less)) in
@@ -168,7 +168,7 @@ module _ {A : Type 0} (make : List A → Leaf) (tape : List Item) where
       let n = i.0 in
       let sum = b.2 in
       let l = length-map (x ∷ xs) (λ y. leaf_mark (make y)) in
-      let f = before_cut tape start (at - 1) (front ++ pieces_mark count ∷ []) (all_marks (x ∷ xs))
+      let f = before_truncated tape start (at - 1) (front ++ pieces_mark count ∷ []) (all_marks (x ∷ xs))
       (omega (arith, fits)) i.1 (omega (arith, l, n, sum)) in
       none (x ∷ xs) (i.1 ∙ ap (λ (z : List Mark). z ++ all_marks (x ∷ xs)) (sym f))
 

@@ -2,7 +2,7 @@
 use Rattle.std.proofs.Common.{◌≡◌, ◌≢◌, ◌∙◌, ap, sym, refl, ℕ, suc, List, [], ◌++◌, length, arith, true}
 use Rattle.std.specs.Prelude.{Ok, Err}
 use Rattle.std.proofs.lemmas.List.{take_all}
-use Rattle.x690.specs.Joined.{IsOneFront}
+use Rattle.x690.specs.Joined.{IsPrefixFree}
 use Rattle.asn1_schema.specs.declared.fault.Fault.{Fault}
 use Rattle.asn1_schema.specs.declared.fault.Fault.TheVariants as faults
 use Rattle.asn1_schema.specs.declared.schema.Node.{Node}
@@ -15,7 +15,7 @@ use Rattle.asn1_schema.specs.Tape.{Kept, marks, tape_of, value_of}
 use Rattle.asn1_schema.specs.Writing.{before, Writes}
 use Rattle.asn1_schema.specs.Encoding.{Encodes, IsOfNoWord, IsReadAs}
 use Rattle.asn1_schema.proofs.OneTape.{one_tape_back}
-use Rattle.asn1_schema.proofs.CutTapes.{length_before}
+use Rattle.asn1_schema.proofs.TruncatedTapes.{length_before}
 use Rattle.asn1_schema.proofs.SameParts.{same_parts}
 use Rattle.asn1_schema.proofs.Lawful.{front_der, front_ber}
 use Rattle.asn1_schema.proofs.StrictIsBer.{strict_is_der, der_is_ber}
@@ -41,7 +41,7 @@ module _ (G : List ℕ → Value → Type 0) (tape : List Item) (old new : List 
 same_rest : (word x y : List ℕ) → word ++ x ≡ word ++ y → x ≡ y
 same_rest word x y e = (same_parts word word x y refl e).1
 
-read_back : (G : List ℕ → Value → Type 0) → IsOneFront G → (tape : List Item) (kept : Kept) (word old new : List ℕ) →
+read_back : (G : List ℕ → Value → Type 0) → IsPrefixFree G → (tape : List Item) (kept : Kept) (word old new : List ℕ) →
     marks tape ≡ tape_of kept → G word (value_of kept) → new ≡ word ++ old → IsReadAs G tape new old
 read_back G one tape kept word old new is h put = record {
   kept = kept;

@@ -79,8 +79,8 @@ module _ (before : List Bool) (place octet : ℕ) (l : place < 8) (b : bit_at pl
   none_later (Some p) a = tt
 
 -- the bits of the last octet stand behind those of the others
-used_cut : (init : List ℕ) (last z : ℕ) → z ≤ 8 → used_bits z (init ++ last ∷ []) ≡ bits_in init ++ first_bits z last
-used_cut init last z l =
+used_truncated : (init : List ℕ) (last z : ℕ) → z ≤ 8 → used_bits z (init ++ last ∷ []) ≡ bits_in init ++ first_bits z last
+used_truncated init last z l =
     let n = length-append init (last ∷ []) in
     let b = bits_length init in
     let k : 8 * length (init ++ last ∷ []) - z ≡ length (bits_in init) + (8 - z) = omega (arith, n, b, l) in
@@ -112,10 +112,10 @@ module _ (o : List ℕ) (len z : ℕ) (some : 0 < len) (within : len ≤ length 
       trimmed (before ++ first_bits z (get_or o (len - 1) 0)) ≡ before ++ first_bits p (get_or o (len - 1) 0)) → z ≤ 8 →
       used_bits p (take len o) ≡ trimmed (used_bits z (take len o))
   set_there p few a l =
-      ap (λ (y : List ℕ). used_bits p y) parted ∙ used_cut (take (len - 1) o) (get_or o (len - 1) 0) p (omega (arith, few))
+      ap (λ (y : List ℕ). used_bits p y) parted ∙ used_truncated (take (len - 1) o) (get_or o (len - 1) 0) p (omega (arith, few))
       ∙ sym (a (bits_in (take (len - 1) o)))
       ∙ ap trimmed (sym (ap (λ (y : List ℕ). used_bits z y) parted
-      ∙ used_cut (take (len - 1) o) (get_or o (len - 1) 0) z l))
+      ∙ used_truncated (take (len - 1) o) (get_or o (len - 1) 0) z l))
 
   -- there is none
   pub none_there : ((before : List Bool) →
@@ -129,6 +129,6 @@ module _ (o : List ℕ) (len z : ℕ) (some : 0 < len) (within : len ≤ length 
         | inl l ↦ ap trimmed (used_short (take (len - 1) o) (get_or o (len - 1) 0) z (omega (arith, l)))
         | inr l ↦
             let n : z - 8 ≡ 0 = omega (arith, l) in
-            ap trimmed (used_cut (take (len - 1) o) (get_or o (len - 1) 0) z l) ∙ a (bits_in (take (len - 1) o))
+            ap trimmed (used_truncated (take (len - 1) o) (get_or o (len - 1) 0) z l) ∙ a (bits_in (take (len - 1) o))
             ∙ ap trimmed (sym (ap (λ (i : ℕ). used_bits i (take (len - 1) o)) n ∙ used_whole (take (len - 1) o)))
       ]

@@ -1,9 +1,9 @@
 -- What the decoder answers.
 use Rattle.std.specs.Prelude.{ℕ, List, [], ◌++◌, ◌≡◌, ◌≢◌, ◌<◌, ◌≤◌, ◌⊎◌, length, Option, Some, None, Result}
 use Rattle.std.specs.Prelude.{OnErr, IsErrOf}
-use Rattle.x690.specs.Joined.{NoFront}
+use Rattle.x690.specs.Joined.{NoPrefix}
 use Rattle.x690.specs.Elements.{Parts, BeginsWithElement}
-use Rattle.x690.specs.Identifiers.{IsCutIdentifier}
+use Rattle.x690.specs.Identifiers.{IsTruncatedIdentifier}
 use Rattle.x690.specs.Nested.{EndsInIdentifier}
 use Rattle.asn1_headers.specs.Answers.{Front}
 use Rattle.asn1_schema.specs.declared.coding.Coding.{Coding}
@@ -37,22 +37,22 @@ pub record IsFollowed (G : List ℕ → Value → Type 0) (octets : List ℕ) : 
   pub some : rest ≢ []
 
 -- No word of the grammar begins the octets, whatever follows, but where they end within identifier octets.
-pub record HasNoWord (G : List ℕ → Value → Type 0) (is_cut : Type 0) (octets : List ℕ) : Type 0 where
-  pub none : NoFront G octets
-  pub lasting : (is_cut → ⊥) → (more : List ℕ) → NoFront G (octets ++ more)
+pub record HasNoWord (G : List ℕ → Value → Type 0) (is_truncated : Type 0) (octets : List ℕ) : Type 0 where
+  pub none : NoPrefix G octets
+  pub lasting : (is_truncated → ⊥) → (more : List ℕ) → NoPrefix G (octets ++ more)
 
 -- What an answer to a depth says that is not Ok, of the input and of what it left: the tape, and the refusal.
 -- G is of words whose elements nest to a depth.
-pub record Fails {T : Type 0} (table : List Node) (G : ℕ → List ℕ → Value → Type 0) (depth : ℕ) (is_cut : Type 0)
+pub record Fails {T : Type 0} (table : List Node) (G : ℕ → List ℕ → Value → Type 0) (depth : ℕ) (is_truncated : Type 0)
     (octets : List ℕ) (tape : List Item) (refusal : Refusal) (result : Result T DecodeError) : Type 0 where
   -- no word of any depth begins the octets
-  pub refused : IsErrOf result errors.Refused → (d : ℕ) → HasNoWord (G d) is_cut octets
+  pub refused : IsErrOf result errors.Refused → (d : ℕ) → HasNoWord (G d) is_truncated octets
   -- none of this depth does
-  pub too_deep : IsErrOf result errors.TooDeep → HasNoWord (G depth) is_cut octets
-  pub cut : (n : ℕ) → IsErrOf result (errors.Incomplete n) → NoFront (G depth) octets
+  pub too_deep : IsErrOf result errors.TooDeep → HasNoWord (G depth) is_truncated octets
+  pub truncated : (n : ℕ) → IsErrOf result (errors.Incomplete n) → NoPrefix (G depth) octets
   -- none of any depth does with fewer octets more
   pub incomplete : (n : ℕ) → IsErrOf result (errors.Incomplete n) → (d : ℕ) (more : List ℕ) → length more < n →
-      NoFront (G d) (octets ++ more)
+      NoPrefix (G d) (octets ++ more)
   pub emptied : OnErr result (tape ≡ [])
   pub within : refusal.octet ≤ length octets
   -- the refusal is told of a type of the table, or of one that it does not have
@@ -61,11 +61,11 @@ pub record Fails {T : Type 0} (table : List Node) (G : ℕ → List ℕ → Valu
 
 -- The octets end within the identifier octets of an element (X.690 8.1.2.4), by BER of one that is nested.
 abbrev pub EndsWithin : Coding → List ℕ → Type 0
-EndsWithin codings.Der octets = IsCutIdentifier octets
+EndsWithin codings.Der octets = IsTruncatedIdentifier octets
 EndsWithin (codings.Ber max) octets = EndsInIdentifier max octets
 
 -- So many octets are missing of the element at the front; or it is whole; or none begins the octets, whatever follows.
 abbrev pub TellsMissing : (List ℕ → Parts → Type 0) → Type 0 → List ℕ → Option ℕ → Type 0
-TellsMissing ElementOf is_cut octets (Some n) = (more : List ℕ) → length more < n → NoFront ElementOf (octets ++ more)
-TellsMissing ElementOf is_cut octets None = BeginsWithElement ElementOf octets ⊎
-    ((is_cut → ⊥) → (more : List ℕ) → NoFront ElementOf (octets ++ more))
+TellsMissing ElementOf is_truncated octets (Some n) = (more : List ℕ) → length more < n → NoPrefix ElementOf (octets ++ more)
+TellsMissing ElementOf is_truncated octets None = BeginsWithElement ElementOf octets ⊎
+    ((is_truncated → ⊥) → (more : List ℕ) → NoPrefix ElementOf (octets ++ more))

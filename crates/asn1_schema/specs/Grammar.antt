@@ -9,7 +9,7 @@ use Rattle.x690.specs.Integers.{IsIntegerContent}
 use Rattle.x690.specs.Arcs.{AreShortest}
 use Rattle.x690.specs.Characters.{Codes, utf16_octets, ucs4_octets}
 use Rattle.x690.specs.Sets.{AllIn, is_numeric, is_printable, is_graphic}
-use Rattle.x690.specs.Joined.{IsJoined}
+use Rattle.x690.specs.Joined.{IsConcatenation}
 use Rattle.x690.specs.Elements.{Parts}
 use Rattle.asn1_schema.specs.declared.schema.TypeTag.{TypeTag}
 use Rattle.asn1_schema.specs.declared.schema.Tags.{Tags}
@@ -98,7 +98,7 @@ IsString {A} R S (suc depth) p xs =
     ((p.id.constructed ≡ false) × S.Content p.content xs) ⊎
     ((R.in_pieces ≡ true) × (p.id.constructed ≡ true) × (pieces : List (List A)) × (xs ≡ joined pieces) ×
     AllButLast S.Whole pieces ×
-    IsJoined (Says R (λ q ys. IsUniversal S.number q.id × IsString R S depth q ys)) p.content pieces)
+    IsConcatenation (Says R (λ q ys. IsUniversal S.number q.id × IsString R S depth q ys)) p.content pieces)
 
 -- octets (8.7); pieces of character strings and of times are octet strings too (8.23.3)
 abbrev pub of_octets : StringOf ℕ
@@ -239,7 +239,7 @@ AreMembers R Sub unknown (f ∷ fs) es vs =
 pub record AreSet (R : Rules) (Sub : ℕ → Parts → Value → Type 0) (unknown : Option ℕ) (fs : List Field)
     (octets : List ℕ) (vs : Values) : Type 0 where
   pub elements : List Parts
-  pub joins : IsJoined R.ElementOf octets elements
+  pub joins : IsConcatenation R.ElementOf octets elements
   pub members : AreMembers R Sub unknown fs elements vs
   pub order : R.TagOrder elements
 

@@ -4,7 +4,7 @@ use Rattle.std.specs.List.{list_any, filter}
 use Rattle.std.specs.Borrow.{Bor}
 use Rattle.x690.specs.Identifiers.{Identifier}
 use Rattle.x690.specs.Elements.{Parts}
-use Rattle.x690.specs.Joined.{IsJoined}
+use Rattle.x690.specs.Joined.{IsConcatenation}
 use Rattle.asn1_schema.specs.declared.fault.Fault.{Fault}
 use Rattle.asn1_schema.specs.declared.schema.Presence.{Presence}
 use Rattle.asn1_schema.specs.declared.schema.Field.{Field}
@@ -25,7 +25,7 @@ use Rattle.asn1_schema.specs.Reading.{rules_of, id_of, parts_of, IsBody, UnlessM
 
 -- the octets are elements with these parts
 abbrev pub AreElements : Coding → List ℕ → List Parts → Type 0
-AreElements e octets es = IsJoined (rules_of e).ElementOf octets es
+AreElements e octets es = IsConcatenation (rules_of e).ElementOf octets es
 
 -- an element with this identifier may follow one, if there is one
 abbrev pub MayFollow : Coding → Option Head → Identifier → Type 0

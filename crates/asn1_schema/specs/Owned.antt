@@ -1,5 +1,5 @@
 -- Tapes that own their octets.
-use Rattle.std.specs.Prelude.{ℕ, List, [], ◌++◌, ◌*◌, ◌-◌, length, map, take, drop}
+use Rattle.std.specs.Prelude.{ℕ, List, [], ◌≡◌, ◌++◌, ◌*◌, ◌-◌, length, map, take, drop}
 use Rattle.x690.specs.Digits.{twos_complement_value}
 use Rattle.asn1_schema.specs.declared.tape.Item.{Item}
 use Rattle.asn1_schema.specs.declared.tape.Item.TheVariants as items
@@ -48,3 +48,9 @@ owned_with t more = map (placed_mark (t.octets.items ++ more)) t.items.items
 -- what stands on an owned tape
 abbrev pub owned_marks : OwnedTape → List Mark
 owned_marks t = map (placed_mark t.octets.items) t.items.items
+
+-- Marks were put behind those of a tape, and their octets behind its octets.
+pub record Appends (old new : OwnedTape) (ms : List Mark) : Type 0 where
+  pub octets : List ℕ
+  pub behind : new.octets.items ≡ old.octets.items ++ octets
+  pub marks : (more : List ℕ) → owned_with new more ≡ owned_with old (octets ++ more) ++ ms

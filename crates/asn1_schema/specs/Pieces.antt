@@ -1,7 +1,7 @@
 -- What readers of strings may answer.
 use Rattle.std.specs.Prelude.{ℕ, Bool, List, ◌++◌, ◌≡◌, ◌↔◌, suc, map, Result, Ok, Err, IsTrue}
 use Rattle.x690.specs.Elements.{Parts}
-use Rattle.x690.specs.Joined.{IsJoined}
+use Rattle.x690.specs.Joined.{IsConcatenation}
 use Rattle.asn1_schema.specs.declared.fault.Fault.{Fault}
 use Rattle.asn1_schema.specs.declared.coding.Coding.{Coding}
 use Rattle.asn1_schema.specs.declared.tape.Item.{Item}
@@ -48,7 +48,7 @@ IsPiece e S depth p xs = IsUniversal S.number p.id × IsString (rules_of e) S de
 -- contents octets are pieces, which are joined
 abbrev pub ArePieces : {A : Type 0} → Coding → StringOf A → ℕ → List ℕ → List A → Type 0
 ArePieces {A} e S depth content xs = (pieces : List (List A)) × (xs ≡ joined pieces) × AllButLast S.Whole pieces ×
-    IsJoined (Says (rules_of e) (IsPiece e S depth)) content pieces
+    IsConcatenation (Says (rules_of e) (IsPiece e S depth)) content pieces
 
 -- a string of a sort; one in one piece, and one in several
 abbrev pub IsStringOf : Coding → Sort → ℕ → Parts → Value → Type 0

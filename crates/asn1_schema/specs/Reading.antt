@@ -129,12 +129,12 @@ pub record PutsFront (P : Value → List ℕ → Type 0) (old new : List Item) (
   pub is : marks new ≡ marks old ++ tape_of kept
 
 -- no value begins the octets
-abbrev pub HasNoFront : (Value → List ℕ → Type 0) → Type 0
-HasNoFront P = (v : Value) (rest : List ℕ) → P v rest → ⊥
+abbrev pub HasNoPrefix : (Value → List ℕ → Type 0) → Type 0
+HasNoPrefix P = (v : Value) (rest : List ℕ) → P v rest → ⊥
 
 abbrev pub ReadsFront : (Value → List ℕ → Type 0) → List Item → List Item → Result (Bor (List ℕ)) Fault → Type 0
 ReadsFront P old new (Ok rest) = PutsFront P old new rest.now
-ReadsFront P old new (Err e) = UnlessMemory e (HasNoFront P)
+ReadsFront P old new (Err e) = UnlessMemory e (HasNoPrefix P)
 
 -- an element with a tag of the type at a place begins the octets
 pub record BeginsTagged (R : Rules) (table : List Node) (t : ℕ) (octets : List ℕ) : Type 0 where
@@ -155,7 +155,7 @@ pub record LeavesOut (R : Rules) (Sub : Parts → Value → Type 0) (presence : 
     (old new : List Item) (rest : List ℕ) : Type 0 where
   pub stays : rest ≡ octets
   pub left : Leaves R Sub presence old new
-  pub none : HasNoFront (Begins R Sub octets)
+  pub none : HasNoPrefix (Begins R Sub octets)
 
 -- a field may not be left out
 abbrev pub MayNot : Rules → (Parts → Value → Type 0) → Presence → Type 0
@@ -166,7 +166,7 @@ MayNot R Sub (presences.Default d) = (v : Value) → Says R Sub d.items v → �
 -- a field is not there, and may not be left out
 pub record IsMissing (R : Rules) (Sub : Parts → Value → Type 0) (Tagged : Type 0) (presence : Presence)
     (octets : List ℕ) : Type 0 where
-  pub none : HasNoFront (Begins R Sub octets)
+  pub none : HasNoPrefix (Begins R Sub octets)
   pub why : Tagged ⊎ MayNot R Sub presence
 
 abbrev pub ReadsField : Rules → (Parts → Value → Type 0) → Type 0 → Presence → List ℕ → List Item → List Item →

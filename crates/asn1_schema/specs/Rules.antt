@@ -2,7 +2,7 @@
 use Rattle.std.specs.Prelude.{ℕ, zero, suc, ◌<◌, ◌≢◌, ◌≡◌, ◌⊎◌, Bool, true, false, List, [], ◌∷◌, ◌++◌, length, replicate, Option, Some, None, IfSome}
 use Rattle.x690.specs.Ascending.{Ascending}
 use Rattle.x690.specs.Identifiers.{Identifier}
-use Rattle.x690.specs.Joined.{AreJoinedWords}
+use Rattle.x690.specs.Joined.{AreConcatenatedWords}
 use Rattle.x690.specs.Elements.{Parts, IsDerElement}
 use Rattle.x690.specs.Nested.{IsElement}
 use Rattle.x690.specs.Times.{digits, to_minute, InRange, SaysZone, SaysZoneOrNone}
@@ -53,7 +53,7 @@ IsTime times.Generalized o = (m : Moment) × (minutes fraction zone : List ℕ) 
 abbrev pub IsStrictInside : ℕ → Parts → Type 0
 IsStrictInside zero p = p.id.constructed ≡ false
 IsStrictInside (suc depth) p = (p.id.constructed ≡ false) ⊎
-    AreJoinedWords (λ word q. IsDerElement word q × IsStrictInside depth q) p.content
+    AreConcatenatedWords (λ word q. IsDerElement word q × IsStrictInside depth q) p.content
 
 abbrev pub ArbitraryParts : ℕ → Parts → Type 0
 ArbitraryParts depth p = Unit {0}

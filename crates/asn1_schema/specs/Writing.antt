@@ -5,7 +5,7 @@ use Rattle.x690.specs.Octets.{IsOctets}
 use Rattle.x690.specs.Ascending.{Ascending}
 use Rattle.x690.specs.Identifiers.{Identifier}
 use Rattle.x690.specs.Elements.{Parts, IsDerElement}
-use Rattle.x690.specs.Joined.{IsJoined}
+use Rattle.x690.specs.Joined.{IsConcatenation}
 use Rattle.x690.specs.Strict.{definite_parts}
 use Rattle.asn1_schema.specs.declared.fault.Fault.{Fault}
 use Rattle.asn1_schema.specs.declared.fault.Fault.TheVariants as faults
@@ -208,13 +208,13 @@ AreCountedSet table depth unknown count fields octets vs =
 -- An element is put in its place among others that ascend by their tags; or it has none, as one has its tag.
 abbrev pub Settles : Parts → List Parts → List ℕ → List ℕ → Bool → Type 0
 Settles e es old new true = (all : List Parts) × (octets : List ℕ) × Takes all e es × TagsAscend all ×
-    IsJoined IsDerElement octets all × (new ≡ octets ++ old)
+    IsConcatenation IsDerElement octets all × (new ≡ octets ++ old)
 Settles e es old new false = (all : List Parts) → Takes all e es → TagsAscend all → ⊥
 
 -- So many of the octets, which are elements, stand before the place of an element.
 abbrev pub HasRoom : Parts → List Parts → List ℕ → Option ℕ → Type 0
 HasRoom e es octets (Some n) = (front back : List Parts) × (one other : List ℕ) × (es ≡ front ++ back) ×
-    TagsAscend (front ++ e ∷ back) × IsJoined IsDerElement one front × IsJoined IsDerElement other back ×
+    TagsAscend (front ++ e ∷ back) × IsConcatenation IsDerElement one front × IsConcatenation IsDerElement other back ×
     (octets ≡ one ++ other) × (n ≡ length one)
 HasRoom e es octets None = (all : List Parts) → Takes all e es → TagsAscend all → ⊥
 

@@ -1,28 +1,28 @@
 //! Whether contents say the same: numbers, octets in pieces, and bits in pieces.
 ghost use Rattle.std.specs.Prelude.{◌≡◌, ◌≢◌, ◌≤◌, ◌↔◌, ◌⊎◌, [], IsTrue};
 ghost use Rattle.x690.specs.Digits.{twos_complement_value};
-ghost use Rattle.x690.specs.Integers.{HasSpareZeros, HasSpareOnes, IsShortestInteger, IsIntegerContent};
+ghost use Rattle.x690.specs.Integers.{HasRedundantZeros, HasRedundantOnes, IsShortestInteger, IsIntegerContent};
 ghost use Rattle.asn1_schema.specs.Joined.{said};
 ghost use Rattle.asn1_schema.specs.Same.{bits_left};
 
 use crate::bitwise::{Bitwise, next_bit};
 use crate::joined::{Joined, next};
-use x690::integers::{has_spare_ones, has_spare_zeros};
+use x690::integers::{has_redundant_ones, has_redundant_zeros};
 
 /// Whether the first octet says nothing that the others do not say.
-fn has_spare(octets: &[u8]) -> bool
-    ensures { IsTrue result ↔ (HasSpareZeros octets.now ⊎ HasSpareOnes octets.now) }
+fn has_redundant(octets: &[u8]) -> bool
+    ensures { IsTrue result ↔ (HasRedundantZeros octets.now ⊎ HasRedundantOnes octets.now) }
 {
-    has_spare_zeros(octets) || has_spare_ones(octets)
+    has_redundant_zeros(octets) || has_redundant_ones(octets)
 }
 
 /// The octets without first ones that say nothing.
-fn without_spare(octets: &[u8]) -> &[u8]
+fn without_redundant(octets: &[u8]) -> &[u8]
     ensures value { twos_complement_value result.now ≡ twos_complement_value octets.now }
     ensures shortest { result.now ≢ [] → IsShortestInteger result.now }
 {
     let mut rest = octets;
-    while has_spare(rest) {
+    while has_redundant(rest) {
         match rest.split_first() {
             Some((_, others)) => rest = others,
             None => return rest,
@@ -35,7 +35,7 @@ fn without_spare(octets: &[u8]) -> &[u8]
 fn shortest(octets: &[u8]) -> &[u8]
     ensures { IsIntegerContent (twos_complement_value octets.now) result.now }
 {
-    let rest = without_spare(octets);
+    let rest = without_redundant(octets);
     if rest.is_empty() {
         return &[0];
     }

@@ -2,7 +2,7 @@
 ghost use Rattle.std.specs.Prelude.{ℕ, List, ◌≢◌, Err, IsTrue};
 ghost use Rattle.asn1_schema.specs.declared.fault.Fault.TheVariants as faults;
 ghost use Rattle.x690.specs.Elements.{IsDerElement};
-ghost use Rattle.x690.specs.Joined.{AreJoinedWords};
+ghost use Rattle.x690.specs.Joined.{AreConcatenatedWords};
 ghost use Rattle.asn1_schema.specs.declared.schema.Node.{Node};
 ghost use Rattle.asn1_schema.specs.declared.schema.Kind.TheVariants as kinds;
 ghost use Rattle.asn1_schema.specs.Rules.{IsStrictInside};
@@ -33,7 +33,7 @@ fn judge_inside(depth: usize, head: Head, content: &[u8]) -> Result<(), Fault>
 #[cycle(inside)]
 fn judge_elements(depth: usize, octets: &[u8]) -> Result<(), Fault>
     ensures judges { (d : ℕ) → HoldsAt depth result d →
-        Admits (AreJoinedWords (λ word q. IsDerElement word q × IsStrictInside d q) octets.now)
+        Admits (AreConcatenatedWords (λ word q. IsDerElement word q × IsStrictInside d q) octets.now)
         result }
     ensures no_memory { result ≢ Err faults.Memory }
 {

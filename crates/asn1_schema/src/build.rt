@@ -20,17 +20,22 @@ use crate::unions::{all_others, one_tag, united};
 use std::alloc::{AllocError, AllocFailed, Global};
 
 /// Why a type is not put into a table.
-#[derive(Debug, Clone, Copy, PartialEq, Eq)]
+#[derive(Debug, Clone, Copy, PartialEq, Eq, thiserror::Error)]
 pub enum BuildError {
     /// Memory ran out.
+    #[error("out of memory")]
     OutOfMemory,
     /// The type leads to a place at which the table has no type.
+    #[error("the type leads to a place where there is none")]
     MissingType,
     /// The place is not that of a type that is declared and not yet defined.
+    #[error("the type is not declared, or is defined already")]
     NotDeclared,
     /// The type is declared, and not yet defined.
+    #[error("the type is declared, and not yet defined")]
     NotDefined,
     /// An arm may have any tag but some, so that no unknown arm is told from it.
+    #[error("an unknown arm is not told from the arms")]
     OpenArm,
 }
 

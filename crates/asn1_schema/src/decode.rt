@@ -7,7 +7,7 @@ ghost use Rattle.asn1_schema.specs.Sound.{is_sound};
 ghost use Rattle.asn1_schema.specs.Reading.{rules_of, IsWordOf};
 ghost use Rattle.asn1_schema.specs.Decoding.{Decodes, DecodesWhole, Fails, IsFollowed, EndsWithin, TellsMissing};
 ghost use Rattle.asn1_schema.specs.declared.fault.Fault.TheVariants as faults;
-ghost use Rattle.x690.specs.Identifiers.{IsCutIdentifier};
+ghost use Rattle.x690.specs.Identifiers.{IsTruncatedIdentifier};
 ghost use Rattle.x690.specs.Nested.{EndsInIdentifier};
 
 use crate::coding::Coding;
@@ -45,7 +45,7 @@ fn error_of(coding: Coding, octets: &[u8], fault: Fault) -> DecodeError
         × TellsMissing (rules_of coding).ElementOf (EndsWithin coding octets.now) octets.now None }
     ensures too_deep { result ≡ errors.TooDeep → (fault ≡ faults.TooDeep)
         × TellsMissing (rules_of coding).ElementOf (EndsWithin coding octets.now) octets.now None }
-    ensures cut { (n : ℕ) → result ≡ errors.Incomplete n → (fault ≢ faults.Memory)
+    ensures truncated { (n : ℕ) → result ≡ errors.Incomplete n → (fault ≢ faults.Memory)
         × TellsMissing (rules_of coding).ElementOf (EndsWithin coding octets.now) octets.now (Some n) }
     ensures no_other { result ≡ errors.TrailingOctets → ⊥ }
 {
@@ -145,7 +145,7 @@ pub fn decode_der<'a>(
     requires { is_sound table.now ≡ true }
     ensures ok { IfOk result (λ rest. Decodes (Word der table.now depth of) octets.now rest.now
         tape.new.items) }
-    ensures fails { Fails table.now (λ d. Word der table.now d of) depth (IsCutIdentifier octets.now)
+    ensures fails { Fails table.now (λ d. Word der table.now d of) depth (IsTruncatedIdentifier octets.now)
         octets.now tape.new.items refusal.new result }
     ensures never_trailing { IsErrOf result errors.TrailingOctets → ⊥ }
 {
@@ -187,7 +187,7 @@ pub fn decode_der_whole<'a>(
 ) -> Result<(), DecodeError>
     requires { is_sound table.now ≡ true }
     ensures ok { OnOk result (DecodesWhole (Word der table.now depth of) octets.now tape.new.items) }
-    ensures fails { Fails table.now (λ d. Word der table.now d of) depth (IsCutIdentifier octets.now)
+    ensures fails { Fails table.now (λ d. Word der table.now d of) depth (IsTruncatedIdentifier octets.now)
         octets.now tape.new.items refusal.new result }
     ensures trailing { IsErrOf result errors.TrailingOctets →
         IsFollowed (Word der table.now depth of) octets.now }

@@ -3,7 +3,7 @@ ghost use Rattle.asn1_headers.specs.declared.length.Length.TheVariants as length
 ghost use Rattle.std.specs.Prelude.{[], ℕ, ◌≡◌, true, false, IfSome, IfNone, IsTrue};
 ghost use Rattle.x690.specs.Elements.{IsDerElement};
 ghost use Rattle.x690.specs.Nested.{IsElement};
-ghost use Rattle.x690.specs.Joined.{NoFront};
+ghost use Rattle.x690.specs.Joined.{NoPrefix};
 ghost use Rattle.asn1_headers.specs.Answers.{Front};
 ghost use Rattle.asn1_schema.specs.Reading.{rules_of, parts_of};
 
@@ -34,7 +34,7 @@ pub struct Head {
 pub(crate) fn der_element(octets: &[u8], at: usize) -> Option<(&[u8], Head, &[u8])>
     ensures some { IfSome result (λ x. Front IsDerElement octets.now (parts_of x.1 x.2.now)
         x.0.now) }
-    ensures none { IfNone result (NoFront IsDerElement octets.now) }
+    ensures none { IfNone result (NoPrefix IsDerElement octets.now) }
 {
     match element_by_der(octets) {
         Ok((rest, (header, content))) => {
@@ -70,7 +70,7 @@ fn is_indefinite(form: Length) -> bool
 fn ber_element(octets: &[u8], max: usize, at: usize) -> Option<(&[u8], Head, &[u8])>
     ensures some { IfSome result (λ x. Front (IsElement max) octets.now (parts_of x.1 x.2.now)
         x.0.now) }
-    ensures none { IfNone result (NoFront (IsElement max) octets.now) }
+    ensures none { IfNone result (NoPrefix (IsElement max) octets.now) }
 {
     if max == 0 {
         return None;
@@ -99,7 +99,7 @@ fn ber_element(octets: &[u8], max: usize, at: usize) -> Option<(&[u8], Head, &[u
 pub(crate) fn element(coding: Coding, octets: &[u8], at: usize) -> Option<(&[u8], Head, &[u8])>
     ensures some { IfSome result (λ x. Front (rules_of coding).ElementOf octets.now (parts_of x.1
         x.2.now) x.0.now) }
-    ensures none { IfNone result (NoFront (rules_of coding).ElementOf octets.now) }
+    ensures none { IfNone result (NoPrefix (rules_of coding).ElementOf octets.now) }
 {
     match coding {
         Coding::Der => der_element(octets, at),

@@ -1,6 +1,6 @@
 //! The laws of the words of a table.
 ghost use Rattle.std.specs.Prelude.{ℕ, suc, List, ◌≡◌, ◌≤◌, ◌++◌, true, Some, slice_get};
-ghost use Rattle.x690.specs.Joined.{IsOneFront};
+ghost use Rattle.x690.specs.Joined.{IsPrefixFree};
 ghost use Rattle.std.specs.declared.vec.Vec.{Vec};
 ghost use Rattle.std.specs.declared.alloc.Global.{Global};
 ghost use Rattle.asn1_schema.specs.declared.schema.Node.{Node};
@@ -16,19 +16,19 @@ ghost use Rattle.asn1_schema.specs.Sound.{is_sound};
 /// Of each type of each sound table, octets begin with one word at most, which has one value; and no word is empty.
 pub fn words_by_der_are_determined()
     ensures { (table : List Node) → is_sound table ≡ true → (depth t : ℕ)
-        → IsOneFront (Word der table depth t) }
+        → IsPrefixFree (Word der table depth t) }
 {}
 
 /// The same of strict words.
 pub fn strict_words_are_determined()
     ensures { (table : List Node) → is_sound table ≡ true → (depth t : ℕ)
-        → IsOneFront (Word strict table depth t) }
+        → IsPrefixFree (Word strict table depth t) }
 {}
 
 /// The same by BER, with elements of indefinite length nested to a depth.
 pub fn words_by_ber_are_determined()
     ensures { (table : List Node) → is_sound table ≡ true
-        → (max depth t : ℕ) → IsOneFront (Word (ber max) table depth t) }
+        → (max depth t : ℕ) → IsPrefixFree (Word (ber max) table depth t) }
 {}
 
 /// A value has one strict word at most, which no other value of the type has.

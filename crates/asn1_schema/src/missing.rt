@@ -2,8 +2,8 @@
 ghost use Rattle.std.specs.Prelude.{ℕ, ◌≡◌, IfSome, IfNone};
 ghost use Rattle.x690.specs.Elements.{IsDerElement};
 ghost use Rattle.x690.specs.Nested.{IsElement, EndsInIdentifier};
-ghost use Rattle.x690.specs.Identifiers.{IsCutIdentifier};
-ghost use Rattle.asn1_headers.specs.declared.error.Err.TheVariants.{Incomplete as cut};
+ghost use Rattle.x690.specs.Identifiers.{IsTruncatedIdentifier};
+ghost use Rattle.asn1_headers.specs.declared.error.Err.TheVariants.{Incomplete as truncated};
 ghost use Rattle.asn1_headers.specs.declared.error.Needed.TheVariants.{Size};
 ghost use Rattle.asn1_schema.specs.Reading.{rules_of};
 ghost use Rattle.asn1_schema.specs.Decoding.{TellsMissing, EndsWithin};
@@ -15,8 +15,8 @@ use asn1_headers::error::{Err as Refusal, Error, Needed};
 
 /// So many octets, if the refusal tells.
 fn missing_of(refusal: Refusal<Error>) -> Option<usize>
-    ensures some { IfSome result (λ n. refusal ≡ cut (Size n)) }
-    ensures none { IfNone result ((n : ℕ) → refusal ≡ cut (Size n) → ⊥) }
+    ensures some { IfSome result (λ n. refusal ≡ truncated (Size n)) }
+    ensures none { IfNone result ((n : ℕ) → refusal ≡ truncated (Size n) → ⊥) }
 {
     match refusal {
         Refusal::Incomplete(Needed::Size(n)) => Some(n),
@@ -26,7 +26,7 @@ fn missing_of(refusal: Refusal<Error>) -> Option<usize>
 
 /// How many octets are missing at least of the element at the front, by DER.
 fn der_missing(octets: &[u8]) -> Option<usize>
-    ensures { TellsMissing IsDerElement (IsCutIdentifier octets.now) octets.now result }
+    ensures { TellsMissing IsDerElement (IsTruncatedIdentifier octets.now) octets.now result }
 {
     match element_by_der(octets) {
         Ok(_) => None,

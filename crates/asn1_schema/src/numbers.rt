@@ -13,7 +13,7 @@ use crate::coding::Coding;
 use crate::elements::{Head, is_at_end};
 use crate::fault::Fault;
 use crate::tape::Item;
-use x690::integers::{has_spare_ones, has_spare_zeros};
+use x690::integers::{has_redundant_ones, has_redundant_zeros};
 use x690::signed::signed_number;
 
 /// The truth value of contents octets by DER: ff or 00 (X.690 11.1).
@@ -92,7 +92,7 @@ pub(crate) fn is_integer(content: &[u8]) -> bool
     ensures yes { IsTrue result → IsIntegerContent (twos_complement_value content.now) content.now }
     ensures no { (n : ℤ) → IsIntegerContent n content.now → IsTrue result }
 {
-    !content.is_empty() && !has_spare_zeros(content) && !has_spare_ones(content)
+    !content.is_empty() && !has_redundant_zeros(content) && !has_redundant_ones(content)
 }
 
 /// An integer of any size.

@@ -1,7 +1,7 @@
-//! Tapes that outlive the octets and the table that they were read from.
-ghost use Rattle.std.specs.Prelude.{ℕ, List, [], ◌∷◌, ◌++◌, ◌≡◌, OnOk, IfOk};
-ghost use Rattle.asn1_schema.specs.Tape.{mark, marks};
-ghost use Rattle.asn1_schema.specs.Owned.{lent, filled, span, owned_with, owned_marks};
+//! Tapes that own their octets. They outlive what they were copied from, and may be made item by item.
+ghost use Rattle.std.specs.Prelude.{ℕ, List, [], ◌∷◌, ◌≡◌, ◌↔◌, OnOk, IfOk, IsTrue, length, drop};
+ghost use Rattle.asn1_schema.specs.Tape.{Mark, begin_mark, between, end_mark, mark, marks};
+ghost use Rattle.asn1_schema.specs.Owned.{Appends, lent, filled, span, owned_marks};
 
 use crate::tape::Item;
 use std::alloc::{AllocError, Global};
@@ -77,25 +77,50 @@ fn octets_at(octets: &[u8], start: usize, len: usize) -> &[u8]
     rest.split_at(len.min(rest.len())).0
 }
 
+/// The items from a place on.
+fn items_from(items: &[Placed], start: usize) -> &[Placed]
+    ensures { result.now ≡ drop start items.now }
+{
+    items.split_at(start.min(items.len())).1
+}
+
 impl OwnedTape {
+    /// A tape with no items.
+    pub fn new(alloc: Global) -> OwnedTape
+        ensures { owned_marks result ≡ [] }
+    {
+        OwnedTape {
+            octets: Vec::new(alloc),
+            items: Vec::new(alloc),
+        }
+    }
+
     /// A copy of a tape.
     pub fn copied(alloc: Global, tape: &[Item<'_>]) -> Result<OwnedTape, AllocError>
         ensures { IfOk result (λ owned. owned_marks owned ≡ marks tape.now) }
     {
-        let mut owned = OwnedTape {
-            octets: Vec::new(alloc),
-            items: Vec::new(alloc),
-        };
-        for item in tape {
-            owned.push(item)?;
-        }
+        let mut owned = OwnedTape::new(alloc);
+        owned.append(tape)?;
         Ok(owned)
     }
 
-    /// Puts an item behind the others.
-    fn push(&mut self, item: &Item<'_>) -> Result<(), AllocError>
-        ensures { OnOk result ((more : List ℕ) → owned_with self.new more ≡
-            owned_with self.old (lent item.now ++ more) ++ mark item.now ∷ []) }
+    /// How many items it has.
+    pub fn len(&self) -> usize
+        ensures { result ≡ length (owned_marks self.now) }
+    {
+        self.items.len()
+    }
+
+    /// Whether it has none.
+    pub fn is_empty(&self) -> bool
+        ensures { IsTrue result ↔ (length (owned_marks self.now) ≡ 0) }
+    {
+        self.items.is_empty()
+    }
+
+    /// Puts an item behind the others, and its octets behind theirs.
+    pub fn push(&mut self, item: &Item<'_>) -> Result<(), AllocError>
+        ensures { OnOk result (Appends self.old self.new (mark item.now ∷ [])) }
     {
         let octets = octets_lent(item);
         let start = self.octets.len();
@@ -108,15 +133,46 @@ impl OwnedTape {
         Ok(())
     }
 
-    /// Puts the items on a tape that is emptied first. They are lent from here.
-    pub fn lend<'t>(&'t self, tape: &mut Vec<Item<'t>>) -> Result<(), AllocError>
-        ensures { OnOk result (marks tape.new.items ≡ owned_marks self.now) }
+    /// Puts the items of a tape behind the others.
+    pub fn append(&mut self, tape: &[Item<'_>]) -> Result<(), AllocError>
+        ensures { OnOk result (Appends self.old self.new (marks tape.now)) }
     {
-        tape.clear();
-        for placed in &self.items {
+        for item in tape {
+            self.push(item)?;
+        }
+        Ok(())
+    }
+
+    /// Puts a row behind the others, whose items are those of another tape.
+    pub fn push_row(&mut self, alloc: Global, inner: &OwnedTape) -> Result<(), AllocError>
+        ensures { (ms : List Mark) → owned_marks inner.now ≡ ms → OnOk result
+            (Appends self.old self.new
+            (between (begin_mark (length ms)) ms (end_mark (length ms)))) }
+    {
+        let tape = inner.lend(alloc)?;
+        let count = tape.len();
+        self.push(&Item::Begin(count))?;
+        self.append(&tape)?;
+        self.push(&Item::End(count))?;
+        Ok(())
+    }
+
+    /// The items from a place on. Their octets are lent from here.
+    pub fn lend_from(&self, alloc: Global, start: usize) -> Result<Vec<Item<'_>>, AllocError>
+        ensures { IfOk result (λ tape. marks tape.items ≡ drop start (owned_marks self.now)) }
+    {
+        let mut tape = Vec::new(alloc);
+        for placed in items_from(&self.items, start) {
             let octets = octets_at(&self.octets, placed.start, placed.len);
             tape.push(with_octets(&placed.shape, octets))?;
         }
-        Ok(())
+        Ok(tape)
+    }
+
+    /// The items. Their octets are lent from here.
+    pub fn lend(&self, alloc: Global) -> Result<Vec<Item<'_>>, AllocError>
+        ensures { IfOk result (λ tape. marks tape.items ≡ owned_marks self.now) }
+    {
+        self.lend_from(alloc, 0)
     }
 }

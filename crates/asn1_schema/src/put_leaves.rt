@@ -16,7 +16,7 @@ use crate::fronts::put_at;
 use crate::numbers::enumerated_item;
 use crate::tape::Item;
 use asn1_headers::buffer::DerBuffer;
-use x690::integers::{has_spare_ones, has_spare_zeros};
+use x690::integers::{has_redundant_ones, has_redundant_zeros};
 use x690::shortest::are_shortest_arcs;
 
 /// The octet of a truth value (X.690 11.1).
@@ -51,14 +51,14 @@ pub(crate) fn put_null(tape: &[Item<'_>], at: usize, buf: &mut DerBuffer) -> Res
 }
 
 /// The octets behind a first one that says nothing of the integer (X.690 8.3.2).
-fn behind_spare(octets: &[u8]) -> Option<&[u8]>
+fn behind_redundant(octets: &[u8]) -> Option<&[u8]>
     ensures some { IfSome result (λ others. (others.now ≢ []) ×
         (twos_complement_value others.now ≡ twos_complement_value octets.now) ×
         (length others.now < length octets.now)) }
     ensures none { octets.now ≢ [] → IfNone result (IsShortestInteger octets.now) }
     ensures octets { IsOctets octets.now }
 {
-    if !has_spare_zeros(octets) && !has_spare_ones(octets) {
+    if !has_redundant_zeros(octets) && !has_redundant_ones(octets) {
         return None;
     }
     match octets.split_first() {
@@ -75,7 +75,7 @@ fn shortest_integer(octets: &[u8]) -> &[u8]
         return &[0];
     }
     let mut rest = octets;
-    while let Some(others) = behind_spare(rest) {
+    while let Some(others) = behind_redundant(rest) {
         rest = others;
     }
     rest

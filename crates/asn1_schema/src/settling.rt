@@ -1,7 +1,7 @@
 //! Elements of a set are put in their places by their tags (X.690 10.3).
 ghost use Rattle.std.specs.Prelude.{ℕ, List, ◌++◌, ◌+◌, ◌-◌, ◌≡◌, ◌≤◌, length, true, false, None, IfSome, IsTrue};
 ghost use Rattle.x690.specs.Elements.{Parts, IsDerElement};
-ghost use Rattle.x690.specs.Joined.{IsJoined};
+ghost use Rattle.x690.specs.Joined.{IsConcatenation};
 ghost use Rattle.asn1_schema.specs.declared.coding.Coding.TheVariants as codings;
 ghost use Rattle.asn1_schema.specs.Rules.{TagsAscend};
 ghost use Rattle.asn1_schema.specs.Members.{AreOrdered};
@@ -26,7 +26,7 @@ pub(crate) fn are_ascending(octets: &[u8]) -> bool
 fn room_for(one: &[u8], others: &[u8]) -> Option<usize>
     ensures within { IfSome result (λ n. n ≤ length others.now) }
     ensures room { (e : Parts) (es : List Parts) → IsDerElement one.now e →
-        IsJoined IsDerElement others.now es → TagsAscend es → HasRoom e es others.now result }
+        IsConcatenation IsDerElement others.now es → TagsAscend es → HasRoom e es others.now result }
 {
     let Some((_, head, _)) = element(Coding::Der, one, 0) else {
         return None;
@@ -65,7 +65,7 @@ pub(crate) fn settle(held: usize, behind: usize, buf: &mut DerBuffer) -> bool
     ensures stays { result ≡ false → buf.new ≡ buf.old }
     ensures settled { (word others old : List ℕ) (e : Parts) (es : List Parts) →
         buf.old ≡ word ++ (others ++ old) → behind ≡ length (others ++ old) → held ≡ length old →
-        IsDerElement word e → IsJoined IsDerElement others es → TagsAscend es →
+        IsDerElement word e → IsConcatenation IsDerElement others es → TagsAscend es →
         Settles e es old buf.new result }
 {
     let (one, others) = two_parts(buf, behind, held);

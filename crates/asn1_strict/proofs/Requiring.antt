@@ -1,7 +1,7 @@
 -- An element that has all that DER asks meets each requirement.
 use Rattle.std.proofs.Common.{◌≡◌, ℕ, Bool, List, inl, inr}
 use Rattle.x690.specs.Faults.{Fault, missing, tag_fault, length_fault, rule_fault, depth_fault}
-use Rattle.x690.specs.Faults.{identifier_breach, length_breach, form_breach}
+use Rattle.x690.specs.Faults.{identifier_violation, length_violation, form_violation}
 use Rattle.x690.specs.Elements.{Parts}
 use Rattle.asn1_headers.specs.Header.Reading.{der_refusal}
 use Rattle.asn1_strict.specs.declared.requirement.Requirement.{Requirement}
@@ -44,7 +44,7 @@ pub told : (fault : Fault) → requirement_of_refusal (der_refusal fault) ≡ re
 told (missing n) = refl
 told tag_fault = refl
 told length_fault = refl
-told (rule_fault identifier_breach) = refl
-told (rule_fault length_breach) = refl
-told (rule_fault form_breach) = refl
+told (rule_fault identifier_violation) = refl
+told (rule_fault length_violation) = refl
+told (rule_fault form_violation) = refl
 told depth_fault = refl

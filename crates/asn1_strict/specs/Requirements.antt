@@ -1,7 +1,7 @@
 -- Which requirement it is that an element does not meet.
 use Rattle.std.specs.Prelude.{◌≡◌, ◌≢◌, ℕ, Bool, List, [], ◌⊎◌}
 use Rattle.x690.specs.Faults.{Fault, missing, tag_fault, length_fault, rule_fault, depth_fault}
-use Rattle.x690.specs.Faults.{identifier_breach, length_breach, form_breach}
+use Rattle.x690.specs.Faults.{identifier_violation, length_violation, form_violation}
 use Rattle.x690.specs.Elements.{Parts}
 use Rattle.x690.specs.Integers.{IsShortestInteger}
 use Rattle.asn1_headers.specs.declared.error.Error.{Error}
@@ -21,9 +21,9 @@ abbrev pub requirement_of_fault : Fault → Requirement
 requirement_of_fault (missing n) = requirements.Whole
 requirement_of_fault tag_fault = requirements.Identifier
 requirement_of_fault length_fault = requirements.Length
-requirement_of_fault (rule_fault identifier_breach) = requirements.ShortestIdentifier
-requirement_of_fault (rule_fault length_breach) = requirements.ShortestLength
-requirement_of_fault (rule_fault form_breach) = requirements.DefiniteLength
+requirement_of_fault (rule_fault identifier_violation) = requirements.ShortestIdentifier
+requirement_of_fault (rule_fault length_violation) = requirements.ShortestLength
+requirement_of_fault (rule_fault form_violation) = requirements.DefiniteLength
 requirement_of_fault depth_fault = requirements.Whole
 
 -- the same, told from the refusal

@@ -7,7 +7,7 @@ ghost use Rattle.asn1_strict.specs.Requirements.{Meets, Misses};
 
 use crate::requirement::Requirement;
 use crate::sets::is_ordered_set;
-use x690::integers::{has_spare_ones, has_spare_zeros};
+use x690::integers::{has_redundant_ones, has_redundant_zeros};
 use x690::sets::{Ascii, Graphic, Numeric, Printable, all_in};
 use x690::shortest::are_shortest_arcs;
 use x690::times::strict_texts::{is_strict_generalized_text, is_strict_utc_text};
@@ -23,7 +23,7 @@ fn is_strict_boolean(content: &[u8]) -> bool
 fn is_shortest_integer(content: &[u8]) -> bool
     ensures { IsTrue result ↔ IsShortestInteger content.now }
 {
-    !content.is_empty() && !has_spare_zeros(content) && !has_spare_ones(content)
+    !content.is_empty() && !has_redundant_zeros(content) && !has_redundant_ones(content)
 }
 
 /// Whether so many bits at the end of an octet are zero.

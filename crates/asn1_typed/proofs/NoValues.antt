@@ -1,7 +1,7 @@
 -- Octets that are no value of a type.
 use Rattle.std.proofs.Common.{◌≡◌, ℕ, List, [], ◌++◌, true, sym, ◌∙◌}
 use Rattle.std.proofs.lemmas.List.{append-nil, append_cancel_left}
-use Rattle.x690.specs.Joined.{IsOneFront, NoFront}
+use Rattle.x690.specs.Joined.{IsPrefixFree, NoPrefix}
 use Rattle.asn1_schema.specs.declared.coding.Coding.{Coding}
 use Rattle.asn1_schema.specs.declared.coding.Coding.TheVariants as codings
 use Rattle.asn1_schema.specs.declared.schema.Node.{Node}
@@ -13,12 +13,12 @@ use Rattle.asn1_typed.specs.Readings.{IsNoValue}
 
 -- no word begins them
 pub none_in_front : (coding : Coding) (table : List Node) (of : ℕ) (octets : List ℕ) →
-    NoFront (IsWordOf coding table 64 of) octets → IsNoValue coding table of octets
+    NoPrefix (IsWordOf coding table 64 of) octets → IsNoValue coding table of octets
 none_in_front coding table of octets none value word = none octets [] value (sym (append-nil octets)) word
 
 -- octets begin with one word
 pub one_front : (coding : Coding) (table : List Node) (depth of : ℕ) → is_sound table ≡ true →
-    IsOneFront (IsWordOf coding table depth of)
+    IsPrefixFree (IsWordOf coding table depth of)
 one_front codings.Der table depth of sound = front_der table sound depth of
 one_front (codings.Ber max) table depth of sound = front_ber table sound max depth of
 

@@ -3,7 +3,7 @@ use Rattle.std.proofs.Common.{◌≡◌, ℕ, ◌+◌, ◌-◌, ◌<◌, List, [
 use Rattle.std.specs.Borrow.{Bor}
 use Rattle.std.proofs.lemmas.List.{append-nil, length-append}
 use Rattle.std.proofs.lemmas.Grind.{flat_map-append}
-use Rattle.x690.specs.Joined.{IsJoined}
+use Rattle.x690.specs.Joined.{IsConcatenation}
 use Rattle.asn1_headers.specs.Answers.{Front}
 use Rattle.asn1_engine.specs.Trees.{sum_within}
 use Rattle.asn1_schema.specs.declared.build.Schema.{Schema}
@@ -14,7 +14,7 @@ use Rattle.asn1_typed.specs.declared.decoding.Decoding.{Decoding}
 use Rattle.asn1_typed.specs.declared.input.Input.{Input}
 
 joined_last : {V : Type 0} (G : List ℕ → V → Type 0) (words word : List ℕ) (vs : List V) (v : V) →
-    IsJoined G words vs → G word v → IsJoined G (words ++ word) (vs ++ v ∷ [])
+    IsConcatenation G words vs → G word v → IsConcatenation G (words ++ word) (vs ++ v ∷ [])
 joined_last G words word [] v none w =
     (word, [], w, ap (λ l. l ++ word) none ∙ sym (append-nil word), refl)
 joined_last G words word (u ∷ us) v (first, rest, fits, is, others) w =

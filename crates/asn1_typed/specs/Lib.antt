@@ -1,4 +1,5 @@
 pub mod Decodings
+pub mod Encodings
 pub mod Kinds
 pub mod Listing
 pub mod Places

@@ -7,7 +7,7 @@ use Rattle.asn1_schema.specs.declared.tape.Item.{Item}
 use Rattle.asn1_schema.specs.Decoding.{Decodes, DecodesWhole}
 use Rattle.asn1_schema.specs.Reading.{IsWordOf}
 use Rattle.asn1_schema.specs.Values.{Value}
-use Rattle.x690.specs.Joined.{NoFront}
+use Rattle.x690.specs.Joined.{NoPrefix}
 use Rattle.asn1_typed.specs.declared.reading.Next.{Next}
 use Rattle.asn1_typed.specs.declared.reading.Next.TheVariants as next
 
@@ -25,4 +25,4 @@ abbrev pub ReadsNext : Coding → List Node → ℕ → List ℕ → List Item �
 ReadsNext coding table of octets tape (next.Value rest) =
     Decodes (IsWordOf coding table 64 of) octets rest.now tape
 ReadsNext coding table of octets tape (next.Refused refusal) =
-    NoFront (IsWordOf coding table 64 of) octets × (refusal.octet ≤ length octets)
+    NoPrefix (IsWordOf coding table 64 of) octets × (refusal.octet ≤ length octets)

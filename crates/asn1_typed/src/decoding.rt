@@ -8,7 +8,7 @@ ghost use Rattle.asn1_typed.specs.Decodings.{DecodesNext, DecodesRow, IsDecoded,
 
 use crate::input::Input;
 use crate::reading::{Next, read, read_next};
-use crate::refusals::push_refusal;
+use crate::refusals::push_refusal_and_element;
 use asn1_engine::RunError;
 use asn1_json::{JsonError, json_of};
 use asn1_schema::build::Schema;
@@ -32,7 +32,7 @@ pub struct Decoding {
 pub enum Decoded {
     /// Their value as JSON, with a line feed.
     Value(Vec<u8>),
-    /// The line of a refusal.
+    /// The line of a refusal, and of the element that begins at its octet.
     Refused(Vec<u8>),
 }
 
@@ -41,7 +41,7 @@ pub enum Decoded {
 enum NextLine<'a> {
     /// A value as JSON, with a line feed, and the octets behind it.
     Value(Vec<u8>, &'a [u8]),
-    /// The line of a refusal.
+    /// The line of a refusal, and of the element that begins at its octet.
     Refused(Vec<u8>),
 }
 
@@ -91,7 +91,7 @@ pub fn decode<'a>(
         },
         Some(refusal) => {
             let mut line = Vec::new(alloc);
-            push_refusal(alloc, &mut line, input, schema, of, &refusal)?;
+            push_refusal_and_element(alloc, &mut line, input, schema, of, &refusal)?;
             Ok(Decoded::Refused(line))
         }
     }
@@ -116,14 +116,14 @@ fn decode_next<'a>(
         },
         Next::Refused(refusal) => {
             let mut line = Vec::new(alloc);
-            push_refusal(alloc, &mut line, input, schema, of, &refusal)?;
+            push_refusal_and_element(alloc, &mut line, input, schema, of, &refusal)?;
             Ok(NextLine::Refused(line))
         }
     }
 }
 
-/// Writes the values that octets are of, each in a line. Where none begins what is left, the line of a refusal is
-/// answered.
+/// Writes the values that octets are of, each in a line. Where none begins what is left, what is told of the
+/// refusal is answered.
 pub fn decode_lines<'a, W: Write>(
     alloc: Global,
     schema: &'a Schema<'_>,

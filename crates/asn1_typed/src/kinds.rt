@@ -44,7 +44,7 @@ fn time_word(kind: TimeKind) -> &'static str
 }
 
 /// The word of a kind, or what stands before the type that it leads to.
-fn kind_word(kind: &Kind) -> &'static str
+pub(crate) fn kind_word(kind: &Kind) -> &'static str
     ensures { result.now ≡ kind_word kind.now }
 {
     match kind {
@@ -80,7 +80,7 @@ fn has_parts(kind: &Kind) -> bool
 }
 
 /// Appends a number in decimals.
-fn push_integer(text: &mut Vec<u8>, number: i128) -> Result<(), AllocError>
+pub(crate) fn push_integer(text: &mut Vec<u8>, number: i128) -> Result<(), AllocError>
     ensures { OnOk result (text.new.items ≡ text.old.items ++ integer_text number) }
 {
     if number < 0 {
@@ -90,7 +90,11 @@ fn push_integer(text: &mut Vec<u8>, number: i128) -> Result<(), AllocError>
 }
 
 /// Appends a bound, or a word where there is none.
-fn push_bound(text: &mut Vec<u8>, word: &str, bound: Option<i128>) -> Result<(), AllocError>
+pub(crate) fn push_bound(
+    text: &mut Vec<u8>,
+    word: &str,
+    bound: Option<i128>,
+) -> Result<(), AllocError>
     ensures { OnOk result (text.new.items ≡ text.old.items ++ bound_text word.now bound) }
 {
     match bound {

@@ -5,24 +5,28 @@ use asn1_headers::length::Length;
 use asn1_schema::build::Schema;
 use asn1_schema::refusal::{Reason, Refusal};
 use asn1_schema::schema::{Field, Kind, Node, Tags};
+use asn1_words::octets::behind;
 use asn1_words::words::{push_number, push_str};
 use std::alloc::AllocError;
 
 /// So many parts lead to an octet at most.
-const MOST_PARTS: usize = 256;
+pub(crate) const MOST_PARTS: usize = 256;
 
 /// An element at the front of octets, of which the end may be missing.
 #[derive(Debug, Clone, Copy)]
-struct Element<'a> {
-    class: u8,
-    number: u32,
+pub(crate) struct Element<'a> {
+    /// The number of its class.
+    pub class: u8,
+    /// The number of its tag.
+    pub number: u32,
     /// How many identifier and length octets it has.
-    header: usize,
-    content: &'a [u8],
+    pub header: usize,
+    /// Its contents octets.
+    pub content: &'a [u8],
 }
 
 /// The element at the front, where its length is definite.
-fn front(octets: &[u8]) -> Option<Element<'_>> {
+pub(crate) fn front(octets: &[u8]) -> Option<Element<'_>> {
     let Ok((rest, header)) = header_by_ber(octets) else {
         return None;
     };
@@ -61,7 +65,7 @@ fn may_be_at(nodes: &[Node], of: usize, element: &Element<'_>) -> bool {
 }
 
 /// The first field from a place on that an element may be.
-fn field_from(
+pub(crate) fn field_from(
     nodes: &[Node],
     fields: &[Field],
     from: usize,
@@ -76,27 +80,19 @@ fn field_from(
 }
 
 /// The first arm that an element may be.
-fn arm_of(nodes: &[Node], arms: &[usize], element: &Element<'_>) -> Option<usize> {
+pub(crate) fn arm_of(nodes: &[Node], arms: &[usize], element: &Element<'_>) -> Option<usize> {
     arms.iter().position(|of| may_be_at(nodes, *of, element))
-}
-
-/// What stands behind so many octets.
-fn behind(octets: &[u8], len: usize) -> &[u8] {
-    match octets.split_at_checked(len) {
-        None => &[],
-        Some((_, rest)) => rest,
-    }
 }
 
 /// An element that may hold an octet.
 #[derive(Debug, Clone, Copy)]
-struct Step<'a> {
+pub(crate) struct Step<'a> {
     /// The place of its type.
-    of: usize,
+    pub of: usize,
     /// The octets that it begins.
-    octets: &'a [u8],
+    pub octets: &'a [u8],
     /// Where they stand.
-    at: usize,
+    pub at: usize,
 }
 
 /// Appends a name behind others.

@@ -1,16 +1,21 @@
 //! Whether octets are the strict encoding of a value of a type.
 ghost use Rattle.std.specs.Prelude.{ℕ, ◌≡◌, ◌++◌, List, true, codes, IfOk, OnOk};
 ghost use Rattle.asn1_schema.specs.Sound.{is_sound};
-ghost use Rattle.asn1_typed.specs.Strict.{FindsStrict, IsDifferenceLine, IsVerdictLine, no_encoding_text, strict_text};
+ghost use Rattle.asn1_typed.specs.Strict.{FindsStrict, HasEncoding, IsDifferenceLine, IsNoEncodingLine};
+ghost use Rattle.asn1_typed.specs.Strict.{IsVerdictLine, strict_text};
 
+use crate::defaults::default_at;
 use crate::input::Input;
 use crate::kinds::{MOST_DEPTH, push_named};
+use crate::order::descent;
 use crate::reading;
-use crate::refusals::{push_octet, push_refusal};
+use crate::refusals::{push_number_and_names, push_octet, push_refusal};
 use asn1_engine::{Finding, RunError};
 use asn1_schema::build::Schema;
+use asn1_schema::encode::{EncodeError, encode_der_vec};
 use asn1_schema::refusal::{Reason, Refusal};
 use asn1_schema::strictness::{NotStrict, decode_strict};
+use asn1_schema::tape::Item;
 use asn1_words::words::push_str;
 use std::alloc::{AllocError, Global};
 
@@ -29,7 +34,37 @@ fn push_strict(
     push_str(text, "\n")
 }
 
-/// Appends at which octet the strict encoding of the value differs, and the names of the parts that lead to it.
+/// The strict encoding of the value of a tape that has one.
+fn encoding_of(
+    alloc: Global,
+    schema: &Schema<'_>,
+    of: usize,
+    tape: &[Item<'_>],
+) -> Result<Vec<u8>, AllocError>
+    requires sound { is_sound schema.now.nodes.items ≡ true }
+    requires encoded { HasEncoding schema.now.nodes.items of tape.now }
+{
+    match encode_der_vec(alloc, &schema.nodes, of, reading::MOST_DEPTH, tape) {
+        Ok(octets) => Ok(octets),
+        Err(EncodeError::OutOfMemory) => Err(AllocError),
+        Err(EncodeError::Refused) => unreachable!(),
+    }
+}
+
+/// The place of an octet of a type, where nothing is refused.
+fn place_of(of: usize, octet: usize) -> Refusal
+    ensures { result.octet ≡ octet }
+{
+    Refusal {
+        octet,
+        of,
+        field: None,
+        reason: Reason::Nothing,
+    }
+}
+
+/// Appends at which octet the strict encoding of the value differs, and where a default stands that it leaves out, with
+/// the names of the parts that lead there.
 fn push_difference(
     alloc: Global,
     text: &mut Vec<u8>,
@@ -37,30 +72,45 @@ fn push_difference(
     schema: &Schema<'_>,
     of: usize,
     octet: usize,
+    encoding: &[u8],
 ) -> Result<(), AllocError>
-    ensures { OnOk result ((line : List ℕ) × IsDifferenceLine input.entry octet line ×
+    ensures { OnOk result ((line : List ℕ) × IsDifferenceLine schema.now of input.entry octet line ×
         (text.new.items ≡ text.old.items ++ line)) }
 {
-    let place = Refusal {
-        octet,
-        of,
-        field: None,
-        reason: Reason::Nothing,
-    };
-    push_octet(alloc, text, input, schema, of, &place)?;
-    push_str(text, ": the strict encoding of the value differs here\n")?;
+    let found = default_at(input.octets, encoding);
+    push_octet(alloc, text, input, schema, of, &place_of(of, octet))?;
+    push_str(text, " (")?;
+    push_named(text, schema, of, MOST_DEPTH)?;
+    push_str(
+        text,
+        "): the strict encoding of the value differs here; a default stands at octet ",
+    )?;
+    push_number_and_names(alloc, text, input, schema, of, &place_of(of, found))?;
+    push_str(text, "\n")?;
     Ok(())
 }
 
-/// Appends that a value has no strict encoding.
-fn push_no_encoding(text: &mut Vec<u8>, input: Input<'_>) -> Result<(), AllocError>
-    ensures { OnOk result (text.new.items ≡ text.old.items ++ no_encoding_text input.entry) }
+/// Appends that a value has no strict encoding, and where a set-of does not ascend, with the names of the parts that
+/// lead there.
+fn push_no_encoding(
+    alloc: Global,
+    text: &mut Vec<u8>,
+    input: Input<'_>,
+    schema: &Schema<'_>,
+    of: usize,
+) -> Result<(), AllocError>
+    ensures { OnOk result ((line : List ℕ) × IsNoEncodingLine schema.now of input.entry line ×
+        (text.new.items ≡ text.old.items ++ line)) }
 {
-    push_str(text, input.name)?;
+    let found = descent(alloc, &schema.nodes, of, input.octets)?;
+    push_octet(alloc, text, input, schema, of, &place_of(of, found))?;
+    push_str(text, " (")?;
+    push_named(text, schema, of, MOST_DEPTH)?;
     push_str(
         text,
-        ": the value has no strict encoding: a SET OF does not ascend, or named bits end in zeros\n",
-    )
+        "): the value has no strict encoding: a SET OF does not ascend\n",
+    )?;
+    Ok(())
 }
 
 /// Appends whether octets are the one strict encoding of a value of a type, and if not, where and why.
@@ -97,11 +147,12 @@ pub fn check_typed(
             Ok(Finding::Refused)
         }
         Err(NotStrict::Differs(octet)) => {
-            push_difference(alloc, text, input, schema, of, octet)?;
+            let encoding = encoding_of(alloc, schema, of, &tape)?;
+            push_difference(alloc, text, input, schema, of, octet, &encoding)?;
             Ok(Finding::Refused)
         }
         Err(NotStrict::NoEncoding) => {
-            push_no_encoding(text, input)?;
+            push_no_encoding(alloc, text, input, schema, of)?;
             Ok(Finding::Refused)
         }
     }

@@ -1,5 +1,7 @@
 //! The types of modules, in a table that is sound.
-ghost use Rattle.std.specs.Prelude.{◌≡◌, true, IfOk, IfSome};
+ghost use Rattle.std.specs.Prelude.{◌≡◌, length, true, IfOk, IfSome};
+ghost use Rattle.asn1_module.specs.Leads.{lead_within};
+ghost use Rattle.asn1_module.specs.Modules.{HavePlaces};
 ghost use Rattle.asn1_schema.specs.Sound.{is_sound};
 
 use crate::listing::{push_unsound, texts_of};
@@ -27,7 +29,12 @@ pub fn sound_types<'t>(
     sources: &[Source<'t>],
     said: &mut Vec<u8>,
 ) -> Result<Option<TypeTable<'t>>, RunError>
-    ensures { IfOk result (λ found. IfSome found (λ table. is_sound table.schema.nodes.items ≡ true)) }
+    ensures sound { IfOk result (λ found. IfSome found (λ table.
+        is_sound table.schema.nodes.items ≡ true)) }
+    ensures leads { IfOk result (λ found. IfSome found (λ table.
+        lead_within table.schema.nodes.items ≡ true)) }
+    ensures places { IfOk result (λ found. IfSome found (λ table.
+        HavePlaces table.modules.types.items (length table.schema.nodes.items))) }
 {
     let texts = texts_of(alloc, sources)?;
     let mut schema = Schema::new(alloc);

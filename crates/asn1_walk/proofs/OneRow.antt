@@ -37,10 +37,10 @@ opens_is_there indefinite marked after content tail h = tt
 no_fault : (octets header after : List ℕ) (id : Identifier) (form : LengthForm) (fault : Fault) →
     IsHeader ber_rule header id form → octets ≡ header ++ after → IsThere form after → NoElement octets fault → ⊥
 no_fault octets header after id form fault h e there (inl why) = header_or_fault ber_rule octets header after id form fault why h e
-no_fault octets header after id form fault h e there (inr cut) =
-    let u = header_unique ber_rule ber_rule header cut.header after cut.rest id cut.id form (definite cut.counted)
-    h cut.header_is (sym e ∙ cut.is) in
-    omega (arith, counted_is_there cut.counted form after u.2 there, ap length u.3, cut.some, cut.sum)
+no_fault octets header after id form fault h e there (inr truncated) =
+    let u = header_unique ber_rule ber_rule header truncated.header after truncated.rest id truncated.id form (definite truncated.counted)
+    h truncated.header_is (sym e ∙ truncated.is) in
+    omega (arith, counted_is_there truncated.counted form after u.2 there, ap length u.3, truncated.some, truncated.sum)
 
 -- two lines tell the same
 record Same (one other : Line) (after rest : List ℕ) : Type 0 where
@@ -67,12 +67,12 @@ record SameOpen (marked other_marked : Bool) (content other tail behind : List �
   pub content_is : content ≡ other
   pub tail_is : tail ≡ behind
 
-cut_alike : (xs ys us vs : List ℕ) → length xs ≡ length ys → xs ++ us ≡ ys ++ vs → (xs ≡ ys) × (us ≡ vs)
-cut_alike [] [] us vs l e = (refl, e)
-cut_alike [] (y ∷ ys) us vs l e = absurd (omega (arith, l))
-cut_alike (x ∷ xs) [] us vs l e = absurd (omega (arith, l))
-cut_alike (x ∷ xs) (y ∷ ys) us vs l e =
-    let r = cut_alike xs ys us vs (omega (arith, l)) (ap (drop 1) e) in
+truncated_alike : (xs ys us vs : List ℕ) → length xs ≡ length ys → xs ++ us ≡ ys ++ vs → (xs ≡ ys) × (us ≡ vs)
+truncated_alike [] [] us vs l e = (refl, e)
+truncated_alike [] (y ∷ ys) us vs l e = absurd (omega (arith, l))
+truncated_alike (x ∷ xs) [] us vs l e = absurd (omega (arith, l))
+truncated_alike (x ∷ xs) (y ∷ ys) us vs l e =
+    let r = truncated_alike xs ys us vs (omega (arith, l)) (ap (drop 1) e) in
     (ap (λ (n : ℕ). n ∷ xs) (head e) ∙ ap (λ (zs : List ℕ). y ∷ zs) r.0, r.1)
   where
     head : x ∷ (xs ++ us) ≡ y ∷ (ys ++ vs) → x ≡ y
@@ -86,7 +86,7 @@ same_open : (form : LengthForm) (marked other_marked : Bool) (after content othe
     Opens form after marked content tail → Opens form after other_marked other behind →
     SameOpen marked other_marked content other tail behind
 same_open (definite n) marked other_marked after content other tail behind h k =
-    let both = cut_alike content other tail behind (h.1 ∙ sym k.1) (sym h.2 ∙ k.2) in
+    let both = truncated_alike content other tail behind (h.1 ∙ sym k.1) (sym h.2 ∙ k.2) in
     record { marked_is = h.0 ∙ sym k.0; content_is = both.0; tail_is = both.1 }
 same_open indefinite marked other_marked after content other tail behind h k =
     record { marked_is = h.0 ∙ sym k.0; content_is = h.1 ∙ sym k.1; tail_is = h.2 ∙ sym k.2 }
@@ -226,7 +226,7 @@ same_rest marked depth offset octets outcome line rest tells counted l =
     let s = same_line marked depth offset octets line l.line (line.content.now ++ rest) (l.line.content.now ++ l.rest) tells l.tells in
     let count : length line.content.now ≡ length l.line.content.now =
     same_count (length line.content.now) (length l.line.content.now) (sym counted ∙ s.form ∙ l.counted) in
-    let both = cut_alike line.content.now l.line.content.now rest l.rest count s.after_is in
+    let both = truncated_alike line.content.now l.line.content.now rest l.rest count s.after_is in
     let here : offset + l.line.header_len + length l.line.content.now ≡ offset + line.header_len + length line.content.now =
     omega (arith, count, s.header_len) in
     subst (λ (o : List ℕ). Row marked depth (offset + line.header_len + length line.content.now) o l.lines outcome) (sym both.1)

@@ -4,7 +4,7 @@ use Rattle.x690.specs.Identifiers.{Identifier}
 use Rattle.x690.specs.Lengths.{LengthForm, definite, indefinite}
 use Rattle.x690.specs.Rules.{ber_rule}
 use Rattle.x690.specs.Elements.{IsHeader}
-use Rattle.x690.specs.Faults.{Fault, HeaderFault, IsCutContent}
+use Rattle.x690.specs.Faults.{Fault, HeaderFault, IsTruncatedContent}
 use Rattle.x690.specs.Nested.{end_of_contents}
 use Rattle.asn1_headers.specs.Class.{class_number}
 use Rattle.asn1_headers.specs.Length.{form_of}
@@ -48,7 +48,7 @@ Opens indefinite after marked content tail = (marked ≡ true) × (content ≡ a
 
 -- why no element begins the octets: no header does, or its contents are cut
 abbrev pub NoElement : List ℕ → Fault → Type 0
-NoElement octets fault = HeaderFault ber_rule octets fault ⊎ IsCutContent ber_rule octets fault
+NoElement octets fault = HeaderFault ber_rule octets fault ⊎ IsTruncatedContent ber_rule octets fault
 
 -- The lines of the elements of a row, in their order: of each element before those of its contents. They are all up to
 -- the end or to the first octet that begins none.

@@ -5,7 +5,7 @@ use Rattle.x690.specs.Lengths.{definite}
 use Rattle.x690.specs.Faults.{Fault}
 use Rattle.asn1_headers.specs.declared.error.Error.{Error}
 use Rattle.asn1_headers.specs.declared.error.Err.{Err as Refusal}
-use Rattle.asn1_headers.specs.declared.error.Err.TheVariants.{Incomplete as cut}
+use Rattle.asn1_headers.specs.declared.error.Err.TheVariants.{Incomplete as truncated}
 use Rattle.asn1_headers.specs.declared.error.Needed.TheVariants.{Size}
 use Rattle.asn1_headers.specs.Header.Reading.{ber_refusal}
 use Rattle.asn1_walk.specs.declared.line.Line.{Line}
@@ -22,7 +22,7 @@ use Rattle.asn1_headers.specs.Length.{form_of}
 -- so many octets and the rest, or how many are missing
 abbrev pub Splits : ℕ → List ℕ → Result (Bor (List ℕ) × Bor (List ℕ)) (Refusal Error) → Type 0
 Splits n octets (Ok x) = (length x.0.now ≡ n) × (octets ≡ x.0.now ++ x.1.now)
-Splits n octets (Err r) = (lacking : ℕ) × (1 ≤ lacking) × (length octets + lacking ≡ n) × (r ≡ cut (Size lacking))
+Splits n octets (Err r) = (lacking : ℕ) × (1 ≤ lacking) × (length octets + lacking ≡ n) × (r ≡ truncated (Size lacking))
 
 -- how the innermost contents that are open end
 abbrev pub marked_of : List Frame → Bool

@@ -1,7 +1,7 @@
 //! Words, numbers and columns at the end of a text.
 ghost use Rattle.std.specs.Prelude.{◌≡◌, ◌≤◌, ◌++◌, length, take, drop, OnOk};
 ghost use Rattle.hex.specs.Hex.{encode_lower};
-ghost use Rattle.asn1_words.specs.Words.{cut_text, left_out_text, spaces, right, left, number_text};
+ghost use Rattle.asn1_words.specs.Words.{truncated_text, left_out_text, spaces, right, left, number_text};
 
 use itoa::Buffer;
 use std::alloc::AllocError;
@@ -86,7 +86,7 @@ pub fn push_left_out(text: &mut Vec<u8>, count: usize) -> Result<(), AllocError>
 }
 
 /// Cuts off what stands behind so many columns from an index on, where that is more, and says of how many octets it is.
-pub fn cut_behind(
+pub fn truncated_behind(
     text: &mut Vec<u8>,
     start: usize,
     width: usize,
@@ -94,7 +94,7 @@ pub fn cut_behind(
 ) -> Result<(), AllocError>
     requires { start ≤ length text.old.items }
     ensures { OnOk result (text.new.items ≡
-        take start text.old.items ++ cut_text width count (drop start text.old.items)) }
+        take start text.old.items ++ truncated_text width count (drop start text.old.items)) }
 {
     if text.len() - start <= width {
         return Ok(());

@@ -8,7 +8,7 @@ use Rattle.std.proofs.lemmas.List.Folds.{flat_map-map}
 use mathlib.Core.Logic.{∥∥₁_elim}
 use mathlib.Core.List.{is_set}
 use native.Mathlib.Nat.{ℕ_set}
-use Rattle.x690.specs.Identifiers.{Identifier, IsCutIdentifier}
+use Rattle.x690.specs.Identifiers.{Identifier, IsTruncatedIdentifier}
 use Rattle.x690.specs.Elements.{Parts, IsDerElement}
 use Rattle.x690.specs.Faults.{DerElementFault}
 use Rattle.x690.specs.Nested.{IsElement, ElementFault}
@@ -21,7 +21,7 @@ use Rattle.asn1_headers.specs.Ber.{max_depth, EndsWithin}
 use Rattle.asn1_rs.specs.Grammar.{NoCheck, BerWord, DerWord}
 use Rattle.asn1_rs.specs.Grammar.Form.{IsOneForm}
 use Rattle.asn1_rs.specs.Grammar.Item.{IsLawfulItem}
-use Rattle.asn1_headers.specs.Header.Reading.{ber_breach, der_breach}
+use Rattle.asn1_headers.specs.Header.Reading.{ber_violation, der_violation}
 use Rattle.asn1_rs.specs.Integer.{IntegerCheckGives, IsUnsigned, SignedGives, SignedRefuses, UnsignedGives}
 use Rattle.asn1_rs.specs.Integer.{UnsignedRefuses, integer_element}
 use Rattle.asn1_rs.specs.Kinds.{ElementGrammar, IsExactCheck, IsExactConversion, IsLawfulElement}
@@ -226,7 +226,7 @@ module _ {S : Type 0} (G : ElementGrammar S) (lawful : IsLawfulElement G) (conve
     where
       exact : (octets : List ℕ) (answer : Reading S) → BerGives convert Same octets answer →
           Exactly EndsWithin (BerWord G.Body) G.value (TellsMemory G.allocates Same) octets answer
-      exact = element_exact (IsElement max_depth) (ElementFault max_depth) EndsWithin ber_elements ber_breach PassesAll
+      exact = element_exact (IsElement max_depth) (ElementFault max_depth) EndsWithin ber_elements ber_violation PassesAll
           convert Same NoCheck G.Body G.value G.allocates (BerWord G.Body) passes_all converts.exact (λ o v w. w)
           (λ o v w. w)
 
@@ -236,9 +236,9 @@ module _ {S : Type 0} (G : ElementGrammar S) (lawful : IsLawfulElement G) (conve
       (exact octets a p, p) (exact octets b q, q)
     where
       exact : (octets : List ℕ) (answer : Reading S) → DerGives check convert Same octets answer →
-          Exactly IsCutIdentifier (DerWord G.Check G.Body) G.value (TellsMemory G.allocates Same) octets answer
+          Exactly IsTruncatedIdentifier (DerWord G.Check G.Body) G.value (TellsMemory G.allocates Same) octets answer
       exact =
-          element_exact IsDerElement DerElementFault IsCutIdentifier der_elements der_breach check convert Same G.Check
+          element_exact IsDerElement DerElementFault IsTruncatedIdentifier der_elements der_violation check convert Same G.Check
           G.Body G.value G.allocates (DerWord G.Check G.Body) checks.exact converts.exact (λ o v w. w) (λ o v w. w)
 
 integer_check : IsOneRefusal IntegerCheckGives

@@ -4,18 +4,18 @@ use Rattle.std.proofs.Common.{◌≡◌, ◌∙◌, ◌<◌, sym, ap, subst, ref
 use Rattle.std.proofs.Common.{inr, Result, Ok, Err, arith}
 use Rattle.std.specs.Iterator.{Yields}
 use Rattle.x690.specs.Elements.{Parts, IsDerElement}
-use Rattle.x690.specs.Faults.{Breach, Fault, DerElementFault}
+use Rattle.x690.specs.Faults.{Violation, Fault, DerElementFault}
 use Rattle.x690.specs.Nested.{IsElement, ElementFault}
-use Rattle.x690.specs.Identifiers.{IsCutIdentifier}
+use Rattle.x690.specs.Identifiers.{IsTruncatedIdentifier}
 use Rattle.asn1_headers.specs.declared.error.Err.{Err as Refusal}
-use Rattle.asn1_headers.specs.declared.error.Err.TheVariants.{Error as refused, Incomplete as cut, Failure as failed}
+use Rattle.asn1_headers.specs.declared.error.Err.TheVariants.{Error as refused, Incomplete as truncated, Failure as failed}
 use Rattle.asn1_headers.specs.declared.error.Error.{Error}
 use Rattle.asn1_headers.specs.declared.error.Error.TheVariants.{Incomplete, OutOfMemory}
 use Rattle.asn1_rs.specs.declared.asn1_types.any.Any.{Any}
 use Rattle.asn1_rs.specs.Any.{BeginsWithAny, parts_of}
 use Rattle.asn1_headers.specs.Ber.{max_depth, EndsWithin}
 use Rattle.asn1_headers.specs.Error.{FlattenedTo}
-use Rattle.asn1_headers.specs.Header.Reading.{refusal_of, der_breach, ber_breach}
+use Rattle.asn1_headers.specs.Header.Reading.{refusal_of, der_violation, ber_violation}
 use Rattle.asn1_rs.specs.Checks.{CheckGives, IsCheck}
 use Rattle.asn1_rs.specs.Lists.{ListGives, ListTakes}
 use Rattle.asn1_headers.specs.Walk.{TakesItem, EndsItem}
@@ -57,12 +57,12 @@ named_flattened : (q r : Refusal Error) (e f : Error) → named q ≡ named r �
 named_flattened q r e f same h k = flat q e h ∙ ap name same ∙ sym (flat r f k)
   where
     name : Refusal (List ℕ) → List ℕ
-    name (cut n) = name_of_error (Incomplete n)
+    name (truncated n) = name_of_error (Incomplete n)
     name (refused word) = word
     name (failed word) = word
 
     flat : (r : Refusal Error) (e : Error) → FlattenedTo (λ x y. y ≡ x) Same r e → name_of_error e ≡ name (named r)
-    flat (cut n) e h = ap name_of_error h
+    flat (truncated n) e h = ap name_of_error h
     flat (refused x) e h = ap name_of_error h
     flat (failed x) e h = ap name_of_error h
 
@@ -91,8 +91,8 @@ one_by_parts view allocates convert once a b x y same h k =
     once (parts_of a) x y h (subst (λ (p : Parts). convert p y) same k)
 
 -- An element that is read and converted, where no check refuses.
-module _ (ElementOf : List ℕ → Parts → Type 0) (FaultOf : List ℕ → Fault → Type 0) (IsCut : List ℕ → Type 0)
-    (elements : AreElements ElementOf FaultOf IsCut) (refuses : Breach → Error)
+module _ (ElementOf : List ℕ → Parts → Type 0) (FaultOf : List ℕ → Fault → Type 0) (IsTruncated : List ℕ → Type 0)
+    (elements : AreElements ElementOf FaultOf IsTruncated) (refuses : Violation → Error)
     {T D : Type 0} (view : T → D) (allocates : Bool) (convert : Any → Result T Error → Type 0)
     (once : IsOneTaking view allocates convert) where
   abbrev Gives : List ℕ → Reading T → Type 0
@@ -102,21 +102,21 @@ module _ (ElementOf : List ℕ → Parts → Type 0) (FaultOf : List ℕ → Fau
       BeginsWithAny ElementOf octets any rest → convert any (Ok x) → Gives octets (Err r) →
       (allocates ≡ true) × (r ≡ no_memory)
   element_or_refused octets rest any x r begins is (inl (fault, why, told)) = absurd
-      (element_or_fault ElementOf FaultOf IsCut elements refuses octets rest (parts_of any) fault begins.front why)
+      (element_or_fault ElementOf FaultOf IsTruncated elements refuses octets rest (parts_of any) fault begins.front why)
   element_or_refused octets rest any x r begins is (inr (other, tail, starts, inl (e, why, told))) =
       absurd (one_pass_none (parts_of other) e why)
   element_or_refused octets rest any x r begins is (inr (other, tail, starts, inr (passes, (e, why, told)))) =
-      let same = same_parts ElementOf FaultOf IsCut elements octets rest tail (parts_of any)
+      let same = same_parts ElementOf FaultOf IsTruncated elements octets rest tail (parts_of any)
       (parts_of other) begins.front starts.front in
       let memory = once any other (Ok x) (Err e) same is why in
       (memory.0, told ∙ ap (λ (d : Error). refused d) memory.1)
 
   pub one_element : IsOneReader view allocates Gives
   one_element octets (Ok (rest, x)) (Ok (tail, y)) (any, begins, passes, is) (other, starts, passed, too) =
-      let same = same_parts ElementOf FaultOf IsCut elements octets rest tail (parts_of any)
+      let same = same_parts ElementOf FaultOf IsTruncated elements octets rest tail (parts_of any)
       (parts_of other) begins.front starts.front in (
         once any other (Ok x) (Ok y) same is too,
-        same_tail ElementOf FaultOf IsCut elements octets rest tail (parts_of any)
+        same_tail ElementOf FaultOf IsTruncated elements octets rest tail (parts_of any)
             (parts_of other) begins.front starts.front,
       )
   one_element octets (Ok (rest, x)) (Err r) (any, begins, passes, is) h =
@@ -126,7 +126,7 @@ module _ (ElementOf : List ℕ → Parts → Type 0) (FaultOf : List ℕ → Fau
   one_element octets (Err q) (Err r) h k =
       one_reading_refusal allocates PassesAll convert one_pass passed
       (λ a b e f same why also. once a b (Err e) (Err f) same why also)
-      ElementOf FaultOf IsCut elements refuses octets q r h k
+      ElementOf FaultOf IsTruncated elements refuses octets q r h k
 
 -- Walks.
 
@@ -233,11 +233,11 @@ module _ {T D : Type 0} (view : T → D) (allocates : Bool) (reads : List ℕ �
       -- Readers of lists.
 
       pub taken_by_ber : IsOneReader sight true (BerGives (OfParts (ListTakes check holds reads Same)) Same)
-      taken_by_ber = one_element (IsElement max_depth) (ElementFault max_depth) EndsWithin ber_elements ber_breach
+      taken_by_ber = one_element (IsElement max_depth) (ElementFault max_depth) EndsWithin ber_elements ber_violation
           sight true (OfParts (ListTakes check holds reads Same))
           (one_by_parts sight true (ListTakes check holds reads Same) takes_once)
 
       pub taken_by_der : IsOneReader sight true (DerGives PassesAll (OfParts (ListTakes check holds reads Same)) Same)
-      taken_by_der = one_element IsDerElement DerElementFault IsCutIdentifier der_elements der_breach sight true
+      taken_by_der = one_element IsDerElement DerElementFault IsTruncatedIdentifier der_elements der_violation sight true
           (OfParts (ListTakes check holds reads Same))
           (one_by_parts sight true (ListTakes check holds reads Same) takes_once)

@@ -9,7 +9,7 @@ use Rattle.std.specs.declared.vec.Vec.{Vec}
 use Rattle.x690.specs.Collections.{multiset}
 use Rattle.x690.specs.Elements.{Parts, IsDerElement}
 use Rattle.x690.specs.Faults.{DerElementFault}
-use Rattle.x690.specs.Identifiers.{IsCutIdentifier}
+use Rattle.x690.specs.Identifiers.{IsTruncatedIdentifier}
 use Rattle.asn1_headers.specs.declared.error.Err.{Err as Refusal}
 use Rattle.asn1_headers.specs.declared.error.Err.TheVariants.{Error as refused}
 use Rattle.asn1_headers.specs.declared.error.Error.{Error}
@@ -66,7 +66,7 @@ any_once = element_by_der any_element element_lawful IsTheElement element_conver
 parts_same : (octets rest tail : List ℕ) (a b : Any) → AnyReads octets (Ok (rest, a)) →
     AnyReads octets (Ok (tail, b)) → parts_of b ≡ parts_of a
 parts_same octets rest tail a b g h =
-    same_parts IsDerElement DerElementFault IsCutIdentifier der_elements octets rest tail (parts_of a) (parts_of b)
+    same_parts IsDerElement DerElementFault IsTruncatedIdentifier der_elements octets rest tail (parts_of a) (parts_of b)
     (der_any octets (Ok (rest, a)) g).front (der_any octets (Ok (tail, b)) h).front
 
 -- Attributes: their refusals.
@@ -122,7 +122,7 @@ attribute_refused octets q r (inr (any, rest, read, why)) (inr (other, tail, als
 
 -- An attribute is read once.
 attribute_once : IsOneReader attribute_value false AttributeGives
-attribute_once octets a b g h = readings_same IsCutIdentifier attribute_item.Der attribute_value false AttributeGives
+attribute_once octets a b g h = readings_same IsTruncatedIdentifier attribute_item.Der attribute_value false AttributeGives
     attribute_item_lawful.der_one attribute_refused octets a b (attribute_exact octets a g, g)
     (attribute_exact octets b h, h)
 

@@ -3,16 +3,16 @@
 use Rattle.std.proofs.Common.{◌≡◌, ◌∙◌, ◌≤◌, ◌^◌, sym, ap, subst, refl, List, [], ◌++◌, length, ℕ, Bool, true, false}
 use Rattle.std.proofs.Common.{◌⊎◌, inl, inr, None, Some, Result, Ok, Err, arith, codes, append_assoc}
 use Rattle.std.proofs.lemmas.List.{append_cancel_left}
-use Rattle.x690.specs.Identifiers.{Identifier, IsCutIdentifier}
+use Rattle.x690.specs.Identifiers.{Identifier, IsTruncatedIdentifier}
 use Rattle.x690.specs.Elements.{Parts, IsDerElement}
 use Rattle.x690.specs.Faults.{DerElementFault}
 use Rattle.x690.specs.Nested.{IsElement, ElementFault}
-use Rattle.x690.specs.Joined.{IsOneFront}
+use Rattle.x690.specs.Joined.{IsPrefixFree}
 use Rattle.asn1_headers.specs.declared.error.Err.{Err as Refusal}
 use Rattle.asn1_headers.specs.declared.error.Err.TheVariants.{Error as refused}
 use Rattle.asn1_headers.specs.declared.error.Error.{Error}
 use Rattle.asn1_rs.specs.declared.asn1_types.any.Any.{Any}
-use Rattle.asn1_headers.specs.Header.Reading.{der_breach, ber_breach}
+use Rattle.asn1_headers.specs.Header.Reading.{der_violation, ber_violation}
 use Rattle.asn1_headers.specs.declared.error.SerializeError.{SerializeError}
 use Rattle.asn1_headers.specs.declared.error.SerializeError.TheVariants as serialize_errors
 use Rattle.asn1_headers.specs.Answers.{Exactly, Front, IsFinal, TellsMemory}
@@ -209,8 +209,8 @@ tells_no_memory : (allocates : Bool) (r : Refusal Error) → TellsMemory allocat
 tells_no_memory allocates r (takes, (e, same, is)) = (takes, is ∙ ap (λ (x : Error). refused x) same)
 
 -- a reader that is exact by a grammar with one word at a front
-module _ {T V : Type 0} (IsCut : List ℕ → Type 0) (G : List ℕ → V → Type 0) (value : T → V) (allocates : Bool)
-    (gives : List ℕ → Reading T → Type 0) (one_word : IsOneFront G)
+module _ {T V : Type 0} (IsTruncated : List ℕ → Type 0) (G : List ℕ → V → Type 0) (value : T → V) (allocates : Bool)
+    (gives : List ℕ → Reading T → Type 0) (one_word : IsPrefixFree G)
     (one_refusal : (octets : List ℕ) (q r : Refusal Error) → gives octets (Err q) → gives octets (Err r) →
     SameRefusal allocates q r) where
   one_front : (octets rest tail : List ℕ) (v w : V) → Front G octets v rest → Front G octets w tail →
@@ -220,14 +220,14 @@ module _ {T V : Type 0} (IsCut : List ℕ → Type 0) (G : List ℕ → V → Ty
       (one.1, append_cancel_left f.word rest tail (sym f.is ∙ g.is ∙ ap (λ (x : List ℕ). x ++ tail) (sym one.0)))
 
   front_or_refusal : (octets rest : List ℕ) (v : V) (r : Refusal Error) → Front G octets v rest →
-      TellsMemory allocates Same r ⊎ IsFinal (IsCut octets) r G octets → (allocates ≡ true) × (r ≡ no_memory)
+      TellsMemory allocates Same r ⊎ IsFinal (IsTruncated octets) r G octets → (allocates ≡ true) × (r ≡ no_memory)
   front_or_refusal octets rest v r f (inl memory) = tells_no_memory allocates r memory
   front_or_refusal octets rest v r f (inr final) =
-      absurd (none_now (IsCut octets) r G octets final f.word rest v f.is f.fits)
+      absurd (none_now (IsTruncated octets) r G octets final f.word rest v f.is f.fits)
 
   pub readings_same : (octets : List ℕ) (a b : Reading T) →
-      Exactly IsCut G value (TellsMemory allocates Same) octets a × gives octets a →
-      Exactly IsCut G value (TellsMemory allocates Same) octets b × gives octets b
+      Exactly IsTruncated G value (TellsMemory allocates Same) octets a × gives octets a →
+      Exactly IsTruncated G value (TellsMemory allocates Same) octets b × gives octets b
       → SameReading (λ x y. value x ≡ value y) allocates a b
   readings_same octets (Ok (rest, x)) (Ok (tail, y)) p q = one_front octets rest tail (value x) (value y) p.0 q.0
   readings_same octets (Ok (rest, x)) (Err r) p q = front_or_refusal octets rest (value x) r p.0 q.0
@@ -252,7 +252,7 @@ module _ {T V : Type 0} (Body : Parts → V → Type 0) (value : T → V) (alloc
   ber_same = readings_same EndsWithin (BerWord Body) value allocates (BerGives convert Same)
       (word_one (IsElement max_depth) NoCheck Body ber_elements.one one_body)
       (one_reading_refusal allocates PassesAll convert one_pass passed one_conversion (IsElement max_depth)
-      (ElementFault max_depth) EndsWithin ber_elements ber_breach)
+      (ElementFault max_depth) EndsWithin ber_elements ber_violation)
 
   module _ (check : Parts → Result (Unit {0}) Error → Type 0) (Check : Parts → Type 0) (one_check : IsOneRefusal check)
       (checked : (p : Parts) (e : Error) → check p (Ok tt) → check p (Err e) → ⊥) where
@@ -260,10 +260,10 @@ module _ {T V : Type 0} (Body : Parts → V → Type 0) (value : T → V) (alloc
         ReadsByDer (DerWord Check Body) value allocates (DerGives check convert Same) octets a →
         ReadsByDer (DerWord Check Body) value allocates (DerGives check convert Same) octets b
         → SameReading (λ x y. value x ≡ value y) allocates a b
-    der_same = readings_same IsCutIdentifier (DerWord Check Body) value allocates (DerGives check convert Same)
+    der_same = readings_same IsTruncatedIdentifier (DerWord Check Body) value allocates (DerGives check convert Same)
         (word_one IsDerElement Check Body der_elements.one one_body)
         (one_reading_refusal allocates check convert one_check checked one_conversion IsDerElement DerElementFault
-        IsCutIdentifier der_elements der_breach)
+        IsTruncatedIdentifier der_elements der_violation)
 
     pub either_same : (rule : Rule) (octets : List ℕ) (a b : Reading T) → ReadsByEither (BerWord Body)
         (DerWord Check Body) value allocates (BerGives convert Same) (DerGives check convert Same) rule octets a

@@ -3,9 +3,9 @@ use Rattle.std.proofs.Common.{◌≡◌, ◌∙◌, sym, ap, subst, refl, List, 
 use Rattle.std.proofs.Common.{◌⊎◌, inl, inr, Result, Ok, Err}
 use Rattle.std.proofs.lemmas.List.{append_cancel_left}
 use Rattle.x690.specs.Elements.{Parts}
-use Rattle.x690.specs.Faults.{Breach, Fault}
+use Rattle.x690.specs.Faults.{Violation, Fault}
 use Rattle.asn1_headers.specs.declared.error.Err.{Err as Refusal}
-use Rattle.asn1_headers.specs.declared.error.Err.TheVariants.{Incomplete as cut, Error as refused, Failure as failed}
+use Rattle.asn1_headers.specs.declared.error.Err.TheVariants.{Incomplete as truncated, Error as refused, Failure as failed}
 use Rattle.asn1_headers.specs.declared.error.Error.{Error}
 use Rattle.asn1_headers.specs.declared.error.Error.TheVariants.{InvalidValue, OutOfMemory}
 use Rattle.asn1_headers.specs.declared.tag.Tag.{Tag}
@@ -22,7 +22,7 @@ use Rattle.asn1vec_answers.specs.Names.{with_brackets, name_of_error, name_of_ne
 use Rattle.asn1vec_answers.specs.Shown.{Same}
 
 pub converted_same : (s r : Refusal Error) → Converted Same s r → r ≡ s
-converted_same (cut n) r h = h
+converted_same (truncated n) r h = h
 converted_same (refused e) r (f, same, is) = is ∙ ap refused same
 converted_same (failed e) r (f, same, is) = is ∙ ap failed same
 
@@ -34,7 +34,7 @@ IsSameBut key memory allocates a b = (key a ≡ key b) ⊎ ((allocates ≡ true)
 
 -- a refusal with the name of its error in the place of the error
 abbrev pub named : Refusal Error → Refusal (List ℕ)
-named (cut n) = cut n
+named (truncated n) = truncated n
 named (refused e) = refused (name_of_error e)
 named (failed e) = failed (name_of_error e)
 
@@ -43,12 +43,12 @@ pub same_name : (q r : Refusal Error) → named q ≡ named r → name_of_refusa
 same_name q r same = sym (shown q) ∙ ap name same ∙ shown r
   where
     name : Refusal (List ℕ) → List ℕ
-    name (cut n) = with_brackets (codes "Incomplete") (name_of_needed n)
+    name (truncated n) = with_brackets (codes "Incomplete") (name_of_needed n)
     name (refused word) = word
     name (failed word) = word
 
     shown : (r : Refusal Error) → name (named r) ≡ name_of_refusal r
-    shown (cut n) = refl
+    shown (truncated n) = refl
     shown (refused e) = refl
     shown (failed e) = refl
 
@@ -117,8 +117,8 @@ refused_same allocates q r e f (inr (takes, inl memory)) is too = inr (takes, in
 refused_same allocates q r e f (inr (takes, inr memory)) is too = inr (takes, inr (too ∙ ap refused memory))
 
 -- one element alone begins octets, and none where there is a fault
-module _ (ElementOf : List ℕ → Parts → Type 0) (FaultOf : List ℕ → Fault → Type 0) (IsCut : List ℕ → Type 0)
-    (elements : AreElements ElementOf FaultOf IsCut) where
+module _ (ElementOf : List ℕ → Parts → Type 0) (FaultOf : List ℕ → Fault → Type 0) (IsTruncated : List ℕ → Type 0)
+    (elements : AreElements ElementOf FaultOf IsTruncated) where
   pub same_parts : (input rest tail : List ℕ) (p o : Parts) → Front ElementOf input p rest →
       Front ElementOf input o tail → o ≡ p
   same_parts input rest tail p o f g = (elements.one.one g.word f.word tail rest o p g.fits f.fits (sym g.is ∙ f.is)).1
@@ -129,11 +129,11 @@ module _ (ElementOf : List ℕ → Parts → Type 0) (FaultOf : List ℕ → Fau
       let words = (elements.one.one f.word g.word rest tail p o f.fits g.fits (sym f.is ∙ g.is)).0 in
       append_cancel_left f.word rest tail (sym f.is ∙ g.is ∙ ap (λ (l : List ℕ). l ++ tail) (sym words))
 
-  pub element_or_fault : (refuses : Breach → Error) (input rest : List ℕ) (p : Parts) (fault : Fault) →
+  pub element_or_fault : (refuses : Violation → Error) (input rest : List ℕ) (p : Parts) (fault : Fault) →
       Front ElementOf input p rest → FaultOf input fault → ⊥
   element_or_fault refuses input rest p fault f why =
-      let silent = speaks_itself refuses fault (refusal_of refuses fault) (IsCut input) []
-      (elements.counts input fault why) refl (speaks_now (IsCut input) (refusal_of refuses fault)) in
+      let silent = speaks_itself refuses fault (refusal_of refuses fault) (IsTruncated input) []
+      (elements.counts input fault why) refl (speaks_now (IsTruncated input) (refusal_of refuses fault)) in
       elements.final input [] f.word rest p fault why silent f.fits (append-nil input ∙ f.is)
 
 module _ {T : Type 0} (allocates : Bool) (check : Parts → Result (Unit {0}) Error → Type 0)
@@ -160,8 +160,8 @@ module _ {T : Type 0} (allocates : Bool) (check : Parts → Result (Unit {0}) Er
     elements_once a b q r alike (inr (passed, (e, why, is))) (inr (again, (f, also, too))) =
         refused_same allocates q r e f (one_conversion a b e f alike why also) is too
 
-    module _ (ElementOf : List ℕ → Parts → Type 0) (FaultOf : List ℕ → Fault → Type 0) (IsCut : List ℕ → Type 0)
-        (elements : AreElements ElementOf FaultOf IsCut) (refuses : Breach → Error) where
+    module _ (ElementOf : List ℕ → Parts → Type 0) (FaultOf : List ℕ → Fault → Type 0) (IsTruncated : List ℕ → Type 0)
+        (elements : AreElements ElementOf FaultOf IsTruncated) (refuses : Violation → Error) where
       abbrev Gives : List ℕ → Result (List ℕ × T) (Refusal Error) → Type 0
       Gives = ElementGives ElementOf FaultOf (refusal_of refuses) check convert Same
 
@@ -171,9 +171,9 @@ module _ {T : Type 0} (allocates : Bool) (check : Parts → Result (Unit {0}) Er
           inl (ap named (converted_same (refusal_of refuses f) q c ∙ ap (refusal_of refuses)
           (elements.alone input f g why also) ∙ sym (converted_same (refusal_of refuses g) r d)))
       one_reading_refusal input q r (inl (f, why, c)) (inr (a, rest, begins, given)) =
-          absurd (element_or_fault ElementOf FaultOf IsCut elements refuses input rest (parts_of a) f begins.front why)
+          absurd (element_or_fault ElementOf FaultOf IsTruncated elements refuses input rest (parts_of a) f begins.front why)
       one_reading_refusal input q r (inr (a, rest, begins, given)) (inl (f, why, c)) =
-          absurd (element_or_fault ElementOf FaultOf IsCut elements refuses input rest (parts_of a) f begins.front why)
+          absurd (element_or_fault ElementOf FaultOf IsTruncated elements refuses input rest (parts_of a) f begins.front why)
       one_reading_refusal input q r (inr (a, rest, begins, given)) (inr (b, tail, other, taken)) =
-          elements_once a b q r (same_parts ElementOf FaultOf IsCut elements input rest tail (parts_of a)
+          elements_once a b q r (same_parts ElementOf FaultOf IsTruncated elements input rest tail (parts_of a)
           (parts_of b) begins.front other.front) given taken

@@ -5,7 +5,7 @@ use Rattle.std.specs.declared.alloc.Global.{Global}
 use Rattle.std.specs.declared.vec.Vec.{Vec}
 use Rattle.x690.specs.Elements.{Parts, IsDerElement}
 use Rattle.x690.specs.Faults.{DerElementFault}
-use Rattle.x690.specs.Identifiers.{IsCutIdentifier}
+use Rattle.x690.specs.Identifiers.{IsTruncatedIdentifier}
 use Rattle.x690.specs.Nested.{IsElement, ElementFault}
 use Rattle.asn1_rs.specs.Any.{parts_of}
 use Rattle.asn1_rs.specs.declared.asn1_types.any.Any.{Any}
@@ -22,7 +22,7 @@ use Rattle.asn1_rs.specs.Tagged.Implicit.{ImplicitTakes, implicit_checks, under}
 use Rattle.asn1_rs.specs.Tagged.Parser.{IsUnder}
 use Rattle.asn1_headers.specs.Answers.{Front}
 use Rattle.asn1_headers.specs.Ber.{max_depth, EndsWithin}
-use Rattle.asn1_headers.specs.Header.Reading.{refusal_of, ber_breach, der_breach}
+use Rattle.asn1_headers.specs.Header.Reading.{refusal_of, ber_violation, der_violation}
 use Rattle.asn1_rs.specs.Tagged.{ReadsWhole}
 use Rattle.asn1_rs.specs.Tagged.Explicit.{ExplicitGives, ExplicitReads, ExplicitTakes}
 use Rattle.asn1_rs.specs.Traits.{BerGives, OfParts}
@@ -67,7 +67,7 @@ module _ {T W D : Type 0} (class number : ℕ) (inner : W → T) (view : T → D
 
   explicit_by_ber : IsOneReader (λ w. view (inner w)) allocates
       (BerGives (OfParts (ExplicitTakes class number inner reads Same)) Same)
-  explicit_by_ber = one_element (IsElement max_depth) (ElementFault max_depth) EndsWithin ber_elements ber_breach
+  explicit_by_ber = one_element (IsElement max_depth) (ElementFault max_depth) EndsWithin ber_elements ber_violation
       (λ w. view (inner w)) allocates (OfParts (ExplicitTakes class number inner reads Same))
       (one_by_parts (λ w. view (inner w)) allocates (ExplicitTakes class number inner reads Same) takes_once)
 
@@ -140,28 +140,28 @@ module _ {T W D : Type 0} (class number : ℕ) (inner : W → T) (view : T → D
       Front IsDerElement octets p rest → Front IsDerElement octets o tail → ReadsIn p a → ReadsIn o b →
       SameReading (λ x y. view x ≡ view y) allocates (alone a) (alone b)
   in_one_element octets rest tail p o a b f g is too = reads_once p a b is (subst (λ (q : Parts). ReadsIn q b)
-      (same_parts IsDerElement DerElementFault IsCutIdentifier der_elements octets rest tail p o f g) too)
+      (same_parts IsDerElement DerElementFault IsTruncatedIdentifier der_elements octets rest tail p o f g) too)
 
   explicit_by_der : IsOneReader (λ w. view (inner w)) allocates (ExplicitGives class number inner reads Same)
   explicit_by_der octets (Ok (rest, v)) (Ok (tail, w)) (p, f, is) (o, g, too) = (
     (in_one_element octets rest tail p o (Ok (inner v)) (Ok (inner w)) f g is too).0,
-    same_tail IsDerElement DerElementFault IsCutIdentifier der_elements octets rest tail p o f g,
+    same_tail IsDerElement DerElementFault IsTruncatedIdentifier der_elements octets rest tail p o f g,
   )
   explicit_by_der octets (Ok (rest, v)) (Err r) (p, f, given) (inl (fault, why, told)) = absurd
-      (element_or_fault IsDerElement DerElementFault IsCutIdentifier der_elements der_breach octets rest p fault f why)
+      (element_or_fault IsDerElement DerElementFault IsTruncatedIdentifier der_elements der_violation octets rest p fault f why)
   explicit_by_der octets (Ok (rest, v)) (Err r) (p, f, is) (inr (o, tail, g, too)) =
       in_one_element octets rest tail p o (Ok (inner v)) (Err r) f g is too
   explicit_by_der octets (Err q) (Ok (tail, w)) (inl (fault, why, told)) (o, g, given) = absurd
-      (element_or_fault IsDerElement DerElementFault IsCutIdentifier der_elements der_breach octets tail o fault g why)
+      (element_or_fault IsDerElement DerElementFault IsTruncatedIdentifier der_elements der_violation octets tail o fault g why)
   explicit_by_der octets (Err q) (Ok (tail, w)) (inr (p, rest, f, is)) (o, g, too) =
       in_one_element octets rest tail p o (Err q) (Ok (inner w)) f g is too
   explicit_by_der octets (Err q) (Err r) (inl (fault, why, told)) (inl (other, also, said)) =
-      inl (ap named (converted_same (refusal_of der_breach fault) q told ∙ ap (refusal_of der_breach)
-      (der_elements.alone octets fault other why also) ∙ sym (converted_same (refusal_of der_breach other) r said)))
+      inl (ap named (converted_same (refusal_of der_violation fault) q told ∙ ap (refusal_of der_violation)
+      (der_elements.alone octets fault other why also) ∙ sym (converted_same (refusal_of der_violation other) r said)))
   explicit_by_der octets (Err q) (Err r) (inl (fault, why, told)) (inr (o, tail, g, too)) = absurd
-      (element_or_fault IsDerElement DerElementFault IsCutIdentifier der_elements der_breach octets tail o fault g why)
+      (element_or_fault IsDerElement DerElementFault IsTruncatedIdentifier der_elements der_violation octets tail o fault g why)
   explicit_by_der octets (Err q) (Err r) (inr (p, rest, f, is)) (inl (fault, why, told)) = absurd
-      (element_or_fault IsDerElement DerElementFault IsCutIdentifier der_elements der_breach octets rest p fault f why)
+      (element_or_fault IsDerElement DerElementFault IsTruncatedIdentifier der_elements der_violation octets rest p fault f why)
   explicit_by_der octets (Err q) (Err r) (inr (p, rest, f, is)) (inr (o, tail, g, too)) =
       in_one_element octets rest tail p o (Err q) (Err r) f g is too
 
@@ -235,9 +235,9 @@ module _ (number : ℕ) (I : Item) (one : IsOneItem I) where
     text = λ s t e. texts_same I.text_of s.inner.items t.inner.items
         (follows one.view I.text_of one.text s.inner.items t.inner.items e);
     value = λ s t e. follows one.view I.grammar.value one.value s.inner.items t.inner.items e;
-    ber = one_element (IsElement max_depth) (ElementFault max_depth) EndsWithin ber_elements ber_breach view_of true
+    ber = one_element (IsElement max_depth) (ElementFault max_depth) EndsWithin ber_elements ber_violation view_of true
         (implicit_vector_takes number I) taken;
-    der = one_element IsDerElement DerElementFault IsCutIdentifier der_elements der_breach view_of true
+    der = one_element IsDerElement DerElementFault IsTruncatedIdentifier der_elements der_violation view_of true
         (implicit_vector_takes number I) taken;
     lawful = implicit_lawful 2 number 16 (λ t. t.inner) (vector I).grammar (vector_once I one).lawful (lit< tt)
         (list_number I.grammar.Form 16) (list_takes_class I.grammar.Form 16 (ber_words I.grammar) I.grammar.Check

@@ -1,7 +1,7 @@
 -- The names of refusals.
 use Rattle.std.specs.Prelude.{ℕ, List, ◌++◌, codes, decimal}
 use Rattle.asn1_headers.specs.declared.error.Err.{Err as Refusal}
-use Rattle.asn1_headers.specs.declared.error.Err.TheVariants.{Incomplete as cut, Error as refused, Failure as failed}
+use Rattle.asn1_headers.specs.declared.error.Err.TheVariants.{Incomplete as truncated, Error as refused, Failure as failed}
 use Rattle.asn1_headers.specs.declared.error.Needed.{Needed}
 use Rattle.asn1_headers.specs.declared.error.Needed.TheVariants.{Unknown, Size}
 use Rattle.asn1_headers.specs.declared.error.DerConstraint.{DerConstraint}
@@ -69,7 +69,7 @@ name_of_error error = word_of_error error
 
 -- what a reader refuses with
 abbrev pub name_of_refusal : Refusal Error → List ℕ
-name_of_refusal (cut needed) = with_brackets (codes "Incomplete") (name_of_needed needed)
+name_of_refusal (truncated needed) = with_brackets (codes "Incomplete") (name_of_needed needed)
 name_of_refusal (refused error) = name_of_error error
 name_of_refusal (failed error) = name_of_error error
 

@@ -5,7 +5,7 @@ use Rattle.std.specs.BTreeSet.{insert_key}
 use Rattle.std.specs.List.{join_by}
 use Rattle.std.specs.declared.cmp.Ordering.{Ordering}
 use Rattle.hex.specs.Hex.{encode_lower}
-use Rattle.x690.specs.Identifiers.{Identifier, IsCutIdentifier}
+use Rattle.x690.specs.Identifiers.{Identifier, IsTruncatedIdentifier}
 use Rattle.x690.specs.Strict.{element_octets}
 use Rattle.asn1_headers.specs.declared.error.Err.{Err as Refusal}
 use Rattle.asn1_headers.specs.declared.error.Error.{Error}
@@ -159,7 +159,7 @@ ReadsByBer Ber value allocates gives octets answer =
 abbrev pub ReadsByDer : {T V : Type 0} → (List ℕ → V → Type 0) → (T → V) → Bool → (List ℕ → Reading T → Type 0) →
     List ℕ → Reading T → Type 0
 ReadsByDer Der value allocates gives octets answer =
-    Exactly IsCutIdentifier Der value (TellsMemory allocates Same) octets answer × gives octets answer
+    Exactly IsTruncatedIdentifier Der value (TellsMemory allocates Same) octets answer × gives octets answer
 
 -- these octets, of a length that 64 bits hold, or why writing them was refused
 abbrev pub IsWritten : Bool → List ℕ → Encoding → Type 0

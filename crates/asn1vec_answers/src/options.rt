@@ -1,6 +1,6 @@
 //! Optional values: how they are read, and shown as `none`, or `some` and the value.
 ghost use Rattle.std.specs.Prelude.{length};
-ghost use Rattle.asn1_rs.specs.Prelude.{ber_words, EndsWithin, Exactly, IsCutIdentifier, MayRefuse, seen};
+ghost use Rattle.asn1_rs.specs.Prelude.{ber_words, EndsWithin, Exactly, IsTruncatedIdentifier, MayRefuse, seen};
 ghost use Rattle.asn1_rs.specs.Prelude.{TellsMemory, whole_allocates, whole_octets, whole_refuses};
 ghost use Rattle.x690.specs.Rules.{ber_rule, der_rule};
 ghost use Rattle.asn1_rs.specs.Optional.{IsLeftOut, OptionGives, option_writing};
@@ -37,7 +37,7 @@ where
     T: LawfulDer<'a, E> + Tagged,
     E: From<Error>,
     ensures { OptionGives (IsLeftOut der_rule (T.TAG).0)
-        (λ o answer. Exactly IsCutIdentifier T.grammar.Der T.grammar.value
+        (λ o answer. Exactly IsTruncatedIdentifier T.grammar.Der T.grammar.value
         (TellsMemory T.grammar.allocates E.from_gives) o answer × T.der_gives o answer)
         octets.now (seen result) }
 {

@@ -36,6 +36,6 @@ impl Encoded for GeneralizedTime {
     }
 
     fn is_told(&self) {
-        self.value_in_hand();
+        self.assert_value_valid();
     }
 }

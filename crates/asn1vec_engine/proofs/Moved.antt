@@ -95,26 +95,26 @@ moves_dropped a line x o n h = record {
 }
 
 -- so were any octets
-pub moves_cut : (a : Option (List ℕ)) (line more : List ℕ) → IsOpen line → IsOpen more → 65536 < length line →
+pub moves_truncated : (a : Option (List ℕ)) (line more : List ℕ) → IsOpen line → IsOpen more → 65536 < length line →
     Moves a a (line ++ more) line
-moves_cut a line [] o p h = subst (λ l. Moves a a l line) (sym (append-nil line)) (moves_none a line)
-moves_cut a line (x ∷ more) o (n, p) h =
+moves_truncated a line [] o p h = subst (λ l. Moves a a l line) (sym (append-nil line)) (moves_none a line)
+moves_truncated a line (x ∷ more) o (n, p) h =
     subst (λ l. Moves a a l line) (append_assoc line (x ∷ []) more)
-    (moves_both (moves_more more (moves_dropped a line x o n h)) (moves_cut a line more o p h))
+    (moves_both (moves_more more (moves_dropped a line x o n h)) (moves_truncated a line more o p h))
 
 -- as many octets are kept as make the line too long, or all
 pub moves_kept : (a : Option (List ℕ)) (line octets : List ℕ) (n : ℕ) → All (λ x. x ≢ 10) line →
     All (λ x. x ≢ 10) octets → n ≡ min (length octets) (65537 - length line)
     → Moves a a (line ++ octets) (line ++ take n octets)
 moves_kept a line octets n o p e = elim (cases_lt n (length octets)) [
-  | inl cut ↦
-      let kept : length (take n octets) ≡ n = length-take-le n octets (omega (arith, cut)) in
-      let size : 65536 < length (line ++ take n octets) = simp length-append (omega (arith, kept, cut, e)) in
+  | inl truncated ↦
+      let kept : length (take n octets) ≡ n = length-take-le n octets (omega (arith, truncated)) in
+      let size : 65536 < length (line ++ take n octets) = simp length-append (omega (arith, kept, truncated, e)) in
       let whole : (line ++ take n octets) ++ drop n octets ≡ line ++ octets =
       append_assoc line (take n octets) (drop n octets) ∙ ap (λ l. line ++ l) (take-append-drop n octets) in
       let front : IsOpen (line ++ take n octets) = recursion_from_All _ _
       (All-append (λ x. x ≢ 10) line (take n octets) o (All-take (λ x. x ≢ 10) n octets p)) in
-      subst (λ l. Moves a a l (line ++ take n octets)) whole (moves_cut a (line ++ take n octets) (drop n octets) front
+      subst (λ l. Moves a a l (line ++ take n octets)) whole (moves_truncated a (line ++ take n octets) (drop n octets) front
       (recursion_from_All _ _ (All-drop (λ x. x ≢ 10) n octets p)) size)
   | inr all ↦
       subst (λ l. Moves a a (line ++ octets) (line ++ l)) (sym (take_all n octets all)) (moves_none a (line ++ octets))

@@ -7,16 +7,16 @@ use asn1_rs::author::{AnyForm, BmpKind, Ia5Kind};
 use asn1_rs::laws::{
     Grammar, answers_last, any_is_the_element, beginnings_are_incomplete, beginnings_are_refused,
     check_is_exact, classes_are_numbered, coded_strings_have_one_refusal, conversion_is_exact,
-    counts_are_of_the_strict_encoding, cuts_of_explicit_parsers_are_counted,
-    cuts_of_implicit_parsers_are_counted, elements_by_der_are_written_again,
-    faults_come_first_by_ber, faults_come_first_by_der, faults_of_lists_come_first,
-    faults_of_tags_come_first, indefinite_contents_are_walked, integers_have_one_refusal,
-    items_are_joined_words, lists_are_joined_words, one_refusal, optional_elements_are_refused,
+    counts_are_of_the_strict_encoding, elements_by_der_are_written_again, faults_come_first_by_ber,
+    faults_come_first_by_der, faults_of_lists_come_first, faults_of_tags_come_first,
+    indefinite_contents_are_walked, integers_have_one_refusal, items_are_joined_words,
+    lists_are_joined_words, one_refusal, optional_elements_are_refused,
     options_are_left_out_by_ber, options_are_left_out_by_der, options_are_read_back_by_ber,
     options_are_read_back_by_der, options_are_refused_by_ber, options_are_refused_by_der,
     reader_is_exact_by_ber, reader_is_exact_by_der, strict_fronts_are_written_again,
     strict_parts_are_read, strict_parts_have_the_number, strict_parts_take_the_class,
     strings_have_one_refusal, texts_have_one_refusal, times_have_one_refusal,
+    truncations_of_explicit_parsers_are_counted, truncations_of_implicit_parsers_are_counted,
     universal_types_are_numbered, walks_end, walks_take_words, words_and_values_are_unique,
 };
 use asn1_rs::{
@@ -44,8 +44,8 @@ pub fn laws_of_each_type_are_called() {
     faults_come_first_by_der::<i16, Error>();
     faults_of_lists_come_first::<Vec<i16>, i16, AnyForm, Error>();
     faults_of_tags_come_first::<i16, Explicit, Error, 2, 0>();
-    cuts_of_explicit_parsers_are_counted::<i16, Explicit, Error>();
-    cuts_of_implicit_parsers_are_counted::<i16, Implicit, Error>();
+    truncations_of_explicit_parsers_are_counted::<i16, Explicit, Error>();
+    truncations_of_implicit_parsers_are_counted::<i16, Implicit, Error>();
     conversion_is_exact::<i16, Error>();
     check_is_exact::<i16>();
     counts_are_of_the_strict_encoding::<i16>();

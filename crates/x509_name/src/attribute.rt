@@ -39,7 +39,7 @@ impl LawfulElement for AttributeTypeAndValue<'_> {
 
     ghost lawful = { attribute_lawful };
 
-    fn value_in_hand(&self) {
+    fn assert_value_valid(&self) {
         self.oid.has_value();
         self.value.has_value();
     }

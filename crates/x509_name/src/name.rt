@@ -3,7 +3,7 @@ ghost use Rattle.std.specs.Prelude.{◌≡◌, ◌<◌, ◌^◌, ◌++◌, ℕ, 
 ghost use Rattle.std.specs.Io.KnownBytes.{Appends};
 ghost use Rattle.std.specs.List.{All};
 ghost use Rattle.std.proofs.Common.{lit<};
-ghost use Rattle.asn1_rs.specs.Prelude.{Error, Exactly, IsCutIdentifier, IsMemoryOrLength, seen, SerializeError};
+ghost use Rattle.asn1_rs.specs.Prelude.{Error, Exactly, IsTruncatedIdentifier, IsMemoryOrLength, seen, SerializeError};
 ghost use Rattle.asn1_rs.specs.Prelude.{Wrote};
 ghost use Rattle.x690.specs.Collections.{Multiset};
 ghost use Rattle.asn1_headers.specs.Answers.{ReadsBack};
@@ -48,7 +48,7 @@ impl LawfulElement for Name<'_> {
 
     ghost lawful = { name_lawful };
 
-    fn value_in_hand(&self) {
+    fn assert_value_valid(&self) {
         self.rdn_sequence.has_value();
     }
 }
@@ -151,8 +151,8 @@ impl LawfulTagged for Name<'_> {
 ///
 /// The attributes of each relative name stand in the order of their words, and the relative names in that of theirs.
 pub fn read_name(alloc: Global, octets: &[u8]) -> ParseResult<'_, Name<'_>, Error>
-    ensures exact { Exactly IsCutIdentifier name_item.Der name_value Memory octets.now (seen result) }
-    ensures in_word_order { Exactly IsCutIdentifier NameInWordOrder rows_of Memory octets.now
+    ensures exact { Exactly IsTruncatedIdentifier name_item.Der name_value Memory octets.now (seen result) }
+    ensures in_word_order { Exactly IsTruncatedIdentifier NameInWordOrder rows_of Memory octets.now
         (seen result) }
     ensures back { (v : List (Multiset AttributeValue)) (word rest : List ℕ) →
         ∥ StrictName v word ∥₁ → octets.now ≡ word ++ rest →

@@ -50,7 +50,7 @@ impl LawfulElement for RelativeDistinguishedName<'_> {
 
     ghost lawful = { relative_name_lawful };
 
-    fn value_in_hand(&self) {
+    fn assert_value_valid(&self) {
         self.v.has_value();
     }
 }

@@ -38,10 +38,10 @@ pub chars_before_char : (text front : List ℕ) (c : ℕ) → IsUtf8 text → Is
 chars_before_char text front c u v e =
     let n = length front in
     let within : n ≤ length text = omega (arith, length-append front (encode_utf8 c), ap length e) in
-    let cut = IsCharBoundary-from_take text n u within
+    let truncated = IsCharBoundary-from_take text n u within
     (subst IsUtf8 (sym (ap (take n) e ∙ take_at front (encode_utf8 c) n refl)) v) in
     let alone : IsUtf8 (encode_utf8 c) =
-    subst IsUtf8 (ap (drop n) e ∙ drop_at front (encode_utf8 c) n refl) (IsUtf8-drop text n u cut) in
+    subst IsUtf8 (ap (drop n) e ∙ drop_at front (encode_utf8 c) n refl) (IsUtf8-drop text n u truncated) in
     ap chars e ∙ chars-append front (encode_utf8 c) v ∙ ap (λ cs. chars front ++ cs)
     (chars_past_char (encode_utf8 c) [] c alone (sym (append-nil (encode_utf8 c))) ∙ ap (λ cs. c ∷ cs) chars-nil)
 

@@ -4,7 +4,7 @@ use Rattle.std.specs.List.{AllZip, concat}
 use Rattle.std.specs.List.Sorted.{IsPermutation}
 use Rattle.x690.specs.Identifiers.{Identifier}
 use Rattle.x690.specs.Elements.{IsStrictElement}
-use Rattle.x690.specs.Joined.{IsOneFront, IsJoined}
+use Rattle.x690.specs.Joined.{IsPrefixFree, IsConcatenation}
 use Rattle.x690.specs.Ascending.{Ascending}
 use mathlib.Core.Quot.{Quot, mk}
 
@@ -44,7 +44,7 @@ AsWords Strict octets v = Strict v octets
 -- A value has one encoding at most, and an encoding one value; no encoding begins another one, and none is empty.
 pub record AreEncodings {V : Type 0} (Strict : V → List ℕ → Type 0) : Type 0 where
   pub one_string : (v : V) (o p : List ℕ) → Strict v o → Strict v p → o ≡ p
-  pub words : IsOneFront (AsWords Strict)
+  pub words : IsPrefixFree (AsWords Strict)
 
 -- the octets are the strict element of an identifier and contents octets
 abbrev pub IsStrictOf : Identifier × List ℕ → List ℕ → Type 0
@@ -68,7 +68,7 @@ pub record Joins {V M : Type 0} (of : List V → M) (Each : List V → Type 0) (
 
 -- the contents octets of a list: the encodings of its values, in their order
 abbrev pub IsListContent : {V : Type 0} → (V → List ℕ → Type 0) → List V → List ℕ → Type 0
-IsListContent Strict vs c = IsJoined (AsWords Strict) c vs
+IsListContent Strict vs c = IsConcatenation (AsWords Strict) c vs
 
 -- of a multiset: in ascending order
 abbrev pub IsMultisetContent : {V : Type 0} → (V → List ℕ → Type 0) → Multiset V → List ℕ → Type 0

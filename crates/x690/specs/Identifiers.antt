@@ -42,16 +42,16 @@ NeedsItsDigits number [] = Unit {0}
 NeedsItsDigits number (digit ∷ digits) = (31 ≤ number) × (digit ≢ 128)
 
 -- the digits that say the number are no more than it needs
-abbrev pub HasNoSpareDigits : List ℕ → ℕ → Type 0
-HasNoSpareDigits [] number = ⊥
-HasNoSpareDigits (first ∷ following) number = NeedsItsDigits number following
+abbrev pub HasNoRedundantDigits : List ℕ → ℕ → Type 0
+HasNoRedundantDigits [] number = ⊥
+HasNoRedundantDigits (first ∷ following) number = NeedsItsDigits number following
 
 -- Identifier octets as a writer writes them (X.690 8.1.2.2, 8.1.2.4).
 abbrev pub IsStrictIdentifier : List ℕ → Identifier → Type 0
-IsStrictIdentifier octets id = IsIdentifier octets id × HasNoSpareDigits octets id.number
+IsStrictIdentifier octets id = IsIdentifier octets id × HasNoRedundantDigits octets id.number
 
 -- the octets end within an identifier in high form, which more of them would make whole
-pub record IsCutIdentifier (octets : List ℕ) : Type 0 where
+pub record IsTruncatedIdentifier (octets : List ℕ) : Type 0 where
   pub more : List ℕ
   pub id : Identifier
   pub some : octets ≢ []

@@ -5,18 +5,18 @@ use Rattle.x690.specs.Octets.{IsOctets}
 use Rattle.x690.specs.Digits.{twos_complement_value}
 
 -- the first nine bits are all zero
-abbrev pub HasSpareZeros : List ℕ → Type 0
-HasSpareZeros (first ∷ second ∷ others) = (first ≡ 0) × (second < 128)
-HasSpareZeros _ = ⊥
+abbrev pub HasRedundantZeros : List ℕ → Type 0
+HasRedundantZeros (first ∷ second ∷ others) = (first ≡ 0) × (second < 128)
+HasRedundantZeros _ = ⊥
 
 -- the first nine bits are all one
-abbrev pub HasSpareOnes : List ℕ → Type 0
-HasSpareOnes (first ∷ second ∷ others) = (first ≡ 255) × (128 ≤ second)
-HasSpareOnes _ = ⊥
+abbrev pub HasRedundantOnes : List ℕ → Type 0
+HasRedundantOnes (first ∷ second ∷ others) = (first ≡ 255) × (128 ≤ second)
+HasRedundantOnes _ = ⊥
 
 -- there is an octet, and none that could be left out (X.690 8.3.2)
 abbrev pub IsShortestInteger : List ℕ → Type 0
-IsShortestInteger content = (content ≢ []) × (¬ HasSpareZeros content) × (¬ HasSpareOnes content)
+IsShortestInteger content = (content ≢ []) × (¬ HasRedundantZeros content) × (¬ HasRedundantOnes content)
 
 -- the strict contents octets of an integer: shortest, and in two's complement (X.690 8.3.2, 8.3.3)
 pub record IsIntegerContent (n : ℤ) (content : List ℕ) : Type 0 where

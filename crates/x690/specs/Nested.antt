@@ -3,11 +3,11 @@ pub mod Contents
 pub mod FaultHeaders
 use Rattle.std.specs.Prelude.{◌≡◌, ◌≢◌, ℕ, zero, suc, ◌+◌, ◌≤◌, List, [], ◌∷◌, ◌++◌, ◌⊎◌}
 use Rattle.std.specs.List.{concat}
-use Rattle.x690.specs.Identifiers.{Identifier, IsCutIdentifier}
+use Rattle.x690.specs.Identifiers.{Identifier, IsTruncatedIdentifier}
 use Rattle.x690.specs.Lengths.{indefinite}
 use Rattle.x690.specs.Rules.{ber_rule}
 use Rattle.x690.specs.Elements.{Parts, IsHeader, IsDefiniteElement, BeginsWithHeader}
-use Rattle.x690.specs.Faults.{Fault, depth_fault, HeaderFault, IsCutContent}
+use Rattle.x690.specs.Faults.{Fault, depth_fault, HeaderFault, IsTruncatedContent}
 
 -- 00 00 ends an indefinite content
 abbrev pub end_of_contents : List ℕ
@@ -64,11 +64,11 @@ unfoldable pub ElementFault : ℕ → List ℕ → Fault → Type 0
 ElementFault zero octets fault =
     HeaderFault ber_rule octets fault ⊎ (BeginsWithHeader ber_rule octets × (fault ≡ depth_fault))
 ElementFault (suc depth) octets fault =
-    HeaderFault ber_rule octets fault ⊎ IsCutContent ber_rule octets fault ⊎
+    HeaderFault ber_rule octets fault ⊎ IsTruncatedContent ber_rule octets fault ⊎
     ((rest : List ℕ) × IsOpened depth octets rest × ElementFault depth rest fault)
 
 -- the octets end within an identifier in high form: at their front, or after the whole elements of an open content
 unfoldable pub EndsInIdentifier : ℕ → List ℕ → Type 0
-EndsInIdentifier zero octets = IsCutIdentifier octets
+EndsInIdentifier zero octets = IsTruncatedIdentifier octets
 EndsInIdentifier (suc depth) octets =
-    IsCutIdentifier octets ⊎ ((rest : List ℕ) × IsOpened depth octets rest × EndsInIdentifier depth rest)
+    IsTruncatedIdentifier octets ⊎ ((rest : List ℕ) × IsOpened depth octets rest × EndsInIdentifier depth rest)

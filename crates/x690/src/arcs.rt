@@ -15,7 +15,7 @@ pub fn contents_are_pieces()
     ensures joined { (content : List ℕ) → concat (pieces_of content) ≡ content }
     ensures first { (digits rest : List ℕ) → AreTagDigits digits →
         pieces_of (digits ++ rest) ≡ digits ∷ pieces_of rest }
-    ensures cut { (octets : List ℕ) → octets ≢ [] → All (λ octet. 128 ≤ octet) octets →
+    ensures truncated { (octets : List ℕ) → octets ≢ [] → All (λ octet. 128 ≤ octet) octets →
         pieces_of octets ≡ octets ∷ [] }
 {}
 

@@ -2,14 +2,14 @@
 
 ghost use Rattle.std.specs.Prelude.{ℕ, List, ◌++◌, ◌≡◌, ◌+◌, ◌≤◌, ◌⊎◌, length};
 ghost use Rattle.x690.specs.Octets.{IsOctets, BeginsWith};
-ghost use Rattle.x690.specs.Identifiers.{Identifier, IsCutIdentifier};
+ghost use Rattle.x690.specs.Identifiers.{Identifier, IsTruncatedIdentifier};
 ghost use Rattle.x690.specs.Lengths.{LengthForm, definite};
 ghost use Rattle.x690.specs.Rules.{Rule, der_rule, ber_rule};
 ghost use Rattle.x690.specs.Elements.{IsHeader, Parts, ArePossible, IsDefiniteElement, IsDerElement, BeginsWithHeader};
 ghost use Rattle.x690.specs.Elements.{BeginsWithElement};
 ghost use Rattle.x690.specs.Strict.{identifier_octets, length_octets};
 ghost use Rattle.x690.specs.Faults.{Fault, missing, tag_fault, HeaderFault, DerElementFault, HasFault, SpeaksOf};
-ghost use Rattle.x690.specs.Faults.{IsLackingOrCut};
+ghost use Rattle.x690.specs.Faults.{IsLackingOrTruncated};
 
 /// Two headers that begin one input are the same and say the same, and the same octets follow (X.690 8.1.1). Each may
 /// keep another rule. A header has two octets at least.
@@ -60,11 +60,11 @@ pub fn definite_elements_unique()
 /// fault speaks.
 pub fn faults_are_final()
     ensures header { (rule : Rule) (input more : List ℕ) (fault : Fault)
-        → HeaderFault rule input fault → SpeaksOf (IsCutIdentifier input) fault more
+        → HeaderFault rule input fault → SpeaksOf (IsTruncatedIdentifier input) fault more
         → (front rest : List ℕ) (id : Identifier) (form : LengthForm)
         → IsHeader rule front id form → BeginsWith (input ++ more) front rest → ⊥ }
     ensures der_element { (input more : List ℕ) (fault : Fault)
-        → DerElementFault input fault → SpeaksOf (IsCutIdentifier input) fault more
+        → DerElementFault input fault → SpeaksOf (IsTruncatedIdentifier input) fault more
         → (front rest : List ℕ) (parts : Parts)
         → IsDerElement front parts → BeginsWith (input ++ more) front rest → ⊥ }
 {}
@@ -114,13 +114,13 @@ pub fn beginnings_lack_octets()
         → HeaderFault rule input fault
         → IsHeader rule front id form
         → BeginsWith (input ++ more) front rest
-        → IsLackingOrCut (IsCutIdentifier input) fault more }
+        → IsLackingOrTruncated (IsTruncatedIdentifier input) fault more }
     ensures der_element { (input more front rest : List ℕ) (parts : Parts) (fault : Fault)
         → DerElementFault input fault
         → IsDerElement front parts
         → BeginsWith (input ++ more) front rest
-        → IsLackingOrCut (IsCutIdentifier input) fault more }
+        → IsLackingOrTruncated (IsTruncatedIdentifier input) fault more }
     ensures within { (rule : Rule) (input : List ℕ)
-        → IsCutIdentifier input
+        → IsTruncatedIdentifier input
         → HeaderFault rule input tag_fault }
 {}

@@ -3,7 +3,7 @@
 ghost use Rattle.std.specs.Prelude.{ℕ, ◌≡◌, ◌<◌, ◌≤◌, ◌^◌, ◌+◌, ◌-◌, ◌*◌, ◌/◌, ◌++◌, List, length, get_or, take, drop};
 ghost use Rattle.std.specs.Prelude.{pos, ℤ, IfSome, IfNone, IsTrue, ◌↔◌};
 ghost use Rattle.x690.specs.Digits.{base_256_value};
-ghost use Rattle.x690.specs.Integers.{HasSpareZeros, HasSpareOnes, IsIntegerContent, HasNoLeadingZero, unsigned_octets};
+ghost use Rattle.x690.specs.Integers.{HasRedundantZeros, HasRedundantOnes, IsIntegerContent, HasNoLeadingZero, unsigned_octets};
 ghost use Rattle.x690.specs.Signed.{signed_octets};
 
 /// The octets behind the leading zeros, which say the same number.
@@ -156,15 +156,15 @@ fn first_nine_bits(octets: &[u8]) -> u16
 }
 
 /// Whether the first nine bits are all zero, which X.690 8.3.2 forbids.
-pub fn has_spare_zeros(octets: &[u8]) -> bool
-    ensures { IsTrue result ↔ HasSpareZeros octets.now }
+pub fn has_redundant_zeros(octets: &[u8]) -> bool
+    ensures { IsTrue result ↔ HasRedundantZeros octets.now }
 {
     octets.len() >= 2 && first_nine_bits(octets) == 0
 }
 
 /// Whether the first nine bits are all one, which X.690 8.3.2 forbids.
-pub fn has_spare_ones(octets: &[u8]) -> bool
-    ensures { IsTrue result ↔ HasSpareOnes octets.now }
+pub fn has_redundant_ones(octets: &[u8]) -> bool
+    ensures { IsTrue result ↔ HasRedundantOnes octets.now }
 {
     octets.len() >= 2 && first_nine_bits(octets) == 511
 }

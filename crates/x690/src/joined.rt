@@ -4,7 +4,7 @@ ghost use Rattle.std.specs.Prelude.{ℕ, List, [], ◌++◌, ◌≡◌, ◌≢�
 ghost use Rattle.x690.specs.Rules.{Rule, der_rule};
 ghost use Rattle.x690.specs.Elements.{Parts, IsDefiniteElement, IsDerElement};
 ghost use Rattle.x690.specs.Nested.{IsElement};
-ghost use Rattle.x690.specs.Joined.{IsOneFront, NoFront, IsJoined, BeginsWithWords};
+ghost use Rattle.x690.specs.Joined.{IsPrefixFree, NoPrefix, IsConcatenation, BeginsWithWords};
 ghost use Rattle.x690.specs.Laws.Words.{definite_words};
 
 /// A grammar whose words show their own end: a relation between words, which are octets, and their values.
@@ -18,7 +18,7 @@ pub trait Words {
     ghost Word: { List ℕ → Value → Type 0 };
 
     /// No word is empty, and two words that begin one input are the same and have one value.
-    ghost one: { IsOneFront Self.Word };
+    ghost one: { IsPrefixFree Self.Word };
 }
 
 /// The elements by DER, as words whose values are their parts.
@@ -35,8 +35,8 @@ impl Words for DerElements {
 
 /// Elements are such words, by each rule and of each depth, with their parts as values (X.690 8.1.1).
 pub fn elements_are_words()
-    ensures definite { (rule : Rule) → IsOneFront (IsDefiniteElement rule) }
-    ensures nested { (depth : ℕ) → IsOneFront (IsElement depth) }
+    ensures definite { (rule : Rule) → IsPrefixFree (IsDefiniteElement rule) }
+    ensures nested { (depth : ℕ) → IsPrefixFree (IsElement depth) }
 {}
 
 /// Octets split in one way into words, with their values. So do octets behind which others follow, where there are as
@@ -55,8 +55,8 @@ pub fn joinings_split_in_one_way<G: Words>()
         → (words ≡ others) × (values ≡ other_values) × (rest ≡ tail) }
     ensures all { (input rest tail : List ℕ) (words others : List (List ℕ))
         (values other_values : List G.Value)
-        → BeginsWithWords G.Word input words values rest → NoFront G.Word rest
-        → BeginsWithWords G.Word input others other_values tail → NoFront G.Word tail
+        → BeginsWithWords G.Word input words values rest → NoPrefix G.Word rest
+        → BeginsWithWords G.Word input others other_values tail → NoPrefix G.Word tail
         → (words ≡ others) × (values ≡ other_values) × (rest ≡ tail) }
     ensures more { (input rest tail : List ℕ) (words others : List (List ℕ))
         (values other_values : List G.Value)
@@ -71,16 +71,16 @@ pub fn joinings_split_in_one_way<G: Words>()
 /// Joined octets are words one after the other, and nothing behind them. They have one row of values. Where octets are
 /// left behind words, and no word begins these, the whole is no joining.
 pub fn joined_octets_are_words<G: Words>()
-    ensures words { (octets : List ℕ) (values : List G.Value) → IsJoined G.Word octets values
+    ensures words { (octets : List ℕ) (values : List G.Value) → IsConcatenation G.Word octets values
         → (words : List (List ℕ)) × BeginsWithWords G.Word octets words values [] }
     ensures joined { (octets : List ℕ) (words : List (List ℕ)) (values : List G.Value)
-        → BeginsWithWords G.Word octets words values [] → IsJoined G.Word octets values }
+        → BeginsWithWords G.Word octets words values [] → IsConcatenation G.Word octets values }
     ensures values { (octets : List ℕ) (values other_values : List G.Value)
-        → IsJoined G.Word octets values → IsJoined G.Word octets other_values
+        → IsConcatenation G.Word octets values → IsConcatenation G.Word octets other_values
         → values ≡ other_values }
     ensures left { (input rest : List ℕ) (words : List (List ℕ)) (values others : List G.Value)
-        → BeginsWithWords G.Word input words values rest → rest ≢ [] → NoFront G.Word rest
-        → IsJoined G.Word input others → ⊥ }
+        → BeginsWithWords G.Word input words values rest → rest ≢ [] → NoPrefix G.Word rest
+        → IsConcatenation G.Word input others → ⊥ }
 {}
 
 /// So octets split in one way into elements by DER, with their parts: the law of all words, called at these.

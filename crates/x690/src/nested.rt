@@ -7,7 +7,7 @@ ghost use Rattle.x690.specs.Identifiers.{Identifier};
 ghost use Rattle.x690.specs.Lengths.{LengthForm, definite};
 ghost use Rattle.x690.specs.Rules.{Rule, ber_rule};
 ghost use Rattle.x690.specs.Elements.{Parts, ArePossible, IsHeader, IsDefiniteElement, BeginsWithElement};
-ghost use Rattle.x690.specs.Faults.{Fault, missing, tag_fault, HasFault, SpeaksOf, IsLackingOrCut};
+ghost use Rattle.x690.specs.Faults.{Fault, missing, tag_fault, HasFault, SpeaksOf, IsLackingOrTruncated};
 ghost use Rattle.x690.specs.Nested.{IsNestedElement, IsElement, IsWord, IsRow, ElementFault, EndsInIdentifier};
 ghost use Rattle.x690.specs.Nested.{end_of_contents};
 ghost use Rattle.x690.specs.Nested.Contents.{IsContent, BeginsWithContent, ContentFault};
@@ -91,7 +91,7 @@ pub fn nested_beginnings_lack_octets()
         (fault : Fault)
         → ElementFault depth input fault
         → IsNestedElement depth front parts headers → BeginsWith (input ++ more) front rest
-        → IsLackingOrCut (EndsInIdentifier depth input) fault more }
+        → IsLackingOrTruncated (EndsInIdentifier depth input) fault more }
     ensures within { (depth : ℕ) (input : List ℕ)
         → EndsInIdentifier depth input
         → ElementFault depth input tag_fault }

@@ -6,21 +6,21 @@ ghost use Rattle.std.specs.Int.{w64, to_be_bytes};
 ghost use Rattle.x690.specs.Octets.{IsOctets};
 ghost use Rattle.x690.specs.Digits.{twos_complement_value};
 ghost use Rattle.x690.specs.Strict.{header_octets};
-ghost use Rattle.x690.specs.Integers.{HasSpareZeros, HasSpareOnes, unsigned_octets};
+ghost use Rattle.x690.specs.Integers.{HasRedundantZeros, HasRedundantOnes, unsigned_octets};
 ghost use Rattle.x690.specs.Signed.{complement, signed_octets, IsSigned};
 
 use crate::integers::{
-    has_spare_ones, has_spare_zeros, unsigned_into, unsigned_octets_count, word_number,
+    has_redundant_ones, has_redundant_zeros, unsigned_into, unsigned_octets_count, word_number,
 };
 
 /// The octets behind those in front that could be left out, which say the same integer (X.690 8.3.2).
-fn without_spare_octets(octets: &[u8]) -> &[u8]
+fn without_redundant_octets(octets: &[u8]) -> &[u8]
     ensures value { twos_complement_value result.now ≡ twos_complement_value octets.now }
-    ensures zeros { ¬ HasSpareZeros result.now }
-    ensures ones { ¬ HasSpareOnes result.now }
+    ensures zeros { ¬ HasRedundantZeros result.now }
+    ensures ones { ¬ HasRedundantOnes result.now }
 {
     let mut rest = octets;
-    while has_spare_zeros(rest) || has_spare_ones(rest) {
+    while has_redundant_zeros(rest) || has_redundant_ones(rest) {
         rest = &rest[1..];
     }
     rest
@@ -29,13 +29,13 @@ fn without_spare_octets(octets: &[u8]) -> &[u8]
 /// The octets themselves where they are no more than `most`, else those behind the ones that could be left out.
 fn fewest_octets(octets: &[u8], most: usize) -> &[u8]
     ensures value { twos_complement_value result.now ≡ twos_complement_value octets.now }
-    ensures zeros { most < length result.now → ¬ HasSpareZeros result.now }
-    ensures ones { most < length result.now → ¬ HasSpareOnes result.now }
+    ensures zeros { most < length result.now → ¬ HasRedundantZeros result.now }
+    ensures ones { most < length result.now → ¬ HasRedundantOnes result.now }
 {
     if octets.len() <= most {
         return octets;
     }
-    without_spare_octets(octets)
+    without_redundant_octets(octets)
 }
 
 /// Whether the first bit is set.

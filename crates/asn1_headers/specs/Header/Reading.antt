@@ -1,10 +1,10 @@
 -- What reading headers may answer.
 use Rattle.std.specs.Prelude.{◌≡◌, ℕ, Bool, List, ◌++◌, Result, Ok, Err, length}
-use Rattle.x690.specs.Identifiers.{Identifier, IsIdentifier, IsCutIdentifier}
+use Rattle.x690.specs.Identifiers.{Identifier, IsIdentifier, IsTruncatedIdentifier}
 use Rattle.x690.specs.Lengths.{IsLengthForm, LengthForm}
 use Rattle.x690.specs.Rules.{Rule, ber_rule, are_shortest_length}
 use Rattle.x690.specs.Elements.{IsHeader}
-use Rattle.x690.specs.Faults.{Breach, identifier_breach, length_breach, form_breach, HeaderFault}
+use Rattle.x690.specs.Faults.{Violation, identifier_violation, length_violation, form_violation, HeaderFault}
 use Rattle.x690.specs.Faults.{Fault, missing, tag_fault, length_fault, rule_fault, depth_fault}
 use Rattle.asn1_headers.specs.declared.tag.Tag.{Tag}
 use Rattle.asn1_headers.specs.declared.length.Length.{Length}
@@ -16,7 +16,7 @@ use Rattle.asn1_headers.specs.declared.error.Error.TheVariants.{DerConstraintFai
 use Rattle.asn1_headers.specs.declared.error.DerConstraint.TheVariants.{IndefiniteLength}
 use Rattle.asn1_headers.specs.declared.error.DerConstraint.TheVariants.{TagNotShortest, LengthNotShortest}
 use Rattle.asn1_headers.specs.declared.error.Err.{Err as Refusal}
-use Rattle.asn1_headers.specs.declared.error.Err.TheVariants.{Incomplete as cut, Error as refused}
+use Rattle.asn1_headers.specs.declared.error.Err.TheVariants.{Incomplete as truncated, Error as refused}
 use Rattle.asn1_headers.specs.declared.error.Needed.TheVariants.{Size}
 use Rattle.asn1_headers.specs.Class.{class_number}
 use Rattle.asn1_headers.specs.Length.{form_of}
@@ -31,30 +31,30 @@ pub record BeginsInput (rule : Rule) (input rest : List ℕ) (h : Header) : Type
   pub raw_tag : KeepsLent header.identifier h
 
 -- the refusal that tells of a fault, where those of headers that their rule does not allow are given
-abbrev pub refusal_of : (Breach → Error) → Fault → Refusal Error
-refusal_of refuses (missing n) = cut (Size n)
+abbrev pub refusal_of : (Violation → Error) → Fault → Refusal Error
+refusal_of refuses (missing n) = truncated (Size n)
 refusal_of refuses tag_fault = refused InvalidTag
 refusal_of refuses length_fault = refused InvalidLength
-refusal_of refuses (rule_fault breach) = refused (refuses breach)
+refusal_of refuses (rule_fault violation) = refused (refuses violation)
 refusal_of refuses depth_fault = refused BerMaxDepth
 
 -- by DER a header is refused for identifier octets and for length octets that are not the shortest, and for 80
-abbrev pub der_breach : Breach → Error
-der_breach identifier_breach = DerConstraintFailed TagNotShortest
-der_breach length_breach = DerConstraintFailed LengthNotShortest
-der_breach form_breach = DerConstraintFailed IndefiniteLength
+abbrev pub der_violation : Violation → Error
+der_violation identifier_violation = DerConstraintFailed TagNotShortest
+der_violation length_violation = DerConstraintFailed LengthNotShortest
+der_violation form_violation = DerConstraintFailed IndefiniteLength
 
 -- by BER a header is refused only where a primitive element has the indefinite form
-abbrev pub ber_breach : Breach → Error
-ber_breach breach = ConstructExpected
+abbrev pub ber_violation : Violation → Error
+ber_violation violation = ConstructExpected
 
 -- how a fault is refused by DER
 abbrev pub der_refusal : Fault → Refusal Error
-der_refusal = refusal_of der_breach
+der_refusal = refusal_of der_violation
 
 -- how a fault is refused by BER
 abbrev pub ber_refusal : Fault → Refusal Error
-ber_refusal = refusal_of ber_breach
+ber_refusal = refusal_of ber_violation
 
 -- the refusal tells of a fault of the octets
 abbrev pub Refused : (List ℕ → Fault → Type 0) → (Fault → Refusal Error) → List ℕ → Refusal Error → Type 0
@@ -99,7 +99,7 @@ BeginsWithForm input rest length =
 -- no header begins the input after a refusal, nor more octets of which the refusal speaks
 abbrev pub HeaderRefusalLasts : Rule → List ℕ → Refusal Error → Type 0
 HeaderRefusalLasts rule input r = (more front rest : List ℕ) (id : Identifier) (form : LengthForm) →
-    Speaks (IsCutIdentifier input) r more → IsHeader rule front id form → input ++ more ≡ front ++ rest → ⊥
+    Speaks (IsTruncatedIdentifier input) r more → IsHeader rule front id form → input ++ more ≡ front ++ rest → ⊥
 
 -- a header that is read is the one that begins the input, by each rule and whatever follows
 abbrev pub HeaderLasts : List ℕ → List ℕ → Header → Type 0

@@ -3,7 +3,7 @@ ghost use Rattle.std.specs.Prelude.{◌≡◌, ℕ, Bool, List, ◌+◌, ◌*◌
 ghost use Rattle.x690.specs.Identifiers.{Identifier, IsIdentifier, bit};
 ghost use Rattle.x690.specs.Lengths.{LengthForm, IsLength};
 ghost use Rattle.x690.specs.Rules.{Rule, der_rule, ber_rule, are_shortest_identifier, are_shortest_length};
-ghost use Rattle.x690.specs.Faults.{Breach, IdentifierFault, LengthFault, HeaderFault};
+ghost use Rattle.x690.specs.Faults.{Violation, IdentifierFault, LengthFault, HeaderFault};
 ghost use Rattle.asn1_headers.specs.Class.{class_number};
 ghost use Rattle.asn1_headers.specs.Answers.{seen};
 ghost use Rattle.asn1_headers.specs.Header.Reading.{Refused, refusal_of, der_refusal, ber_refusal, HeaderGives};
@@ -51,7 +51,7 @@ fn first_octet(octet: u8) -> (Class, bool, u8)
 #[inline(always)]
 fn read_identifier(bytes: &[u8]) -> ParseResult<'_, IdentifierOctets<'_>, Error>
     ensures ok { IfOk result (λ x. BeginsWithIdentifier bytes.now x.0.now x.1) }
-    ensures err { (refuses : Breach → Error)
+    ensures err { (refuses : Violation → Error)
         → IfErr result (Refused IdentifierFault (refusal_of refuses) bytes.now) }
 {
     let [first, digits @ ..] = bytes else {
@@ -82,7 +82,7 @@ fn read_identifier(bytes: &[u8]) -> ParseResult<'_, IdentifierOctets<'_>, Error>
 #[inline(always)]
 fn read_length(bytes: &[u8]) -> ParseResult<'_, (Length, bool), Error>
     ensures ok { IfOk result (λ x. BeginsWithJudgedLength bytes.now x.0.now x.1.0 x.1.1) }
-    ensures err { (refuses : Breach → Error)
+    ensures err { (refuses : Violation → Error)
         → IfErr result (Refused LengthFault (refusal_of refuses) bytes.now) }
 {
     let [first, rest @ ..] = bytes else {

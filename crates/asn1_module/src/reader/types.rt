@@ -2,7 +2,7 @@
 
 use crate::mistake::{ModuleError, Place, Wrong};
 use crate::reader::Reader;
-use crate::syntax::{Span, TagMode, TypeSyntax};
+use crate::syntax::{Appearance, Row, Span, TagMode, TypeSyntax, part};
 use crate::tokens::TokenKind;
 use asn1_schema::schema::{TextKind, TypeTag};
 
@@ -158,9 +158,23 @@ impl<'s, 't> Reader<'s, 't> {
         }
         if self.takes("CHOICE") {
             let row = self.read_components(depth)?;
+            self.check_arms(row)?;
             return self.put_type("", place, TypeSyntax::Choice(row));
         }
         self.read_leaf(place)
+    }
+
+    /// Checks that no arm of a choice is OPTIONAL or has a default.
+    fn check_arms(&self, row: Row) -> Result<(), ModuleError> {
+        for arm in part(&self.syntax.components, row.span) {
+            if matches!(
+                arm.appearance,
+                Appearance::Optional | Appearance::Default(_)
+            ) {
+                return Err(arm.place.error(Wrong::ArmLeftOut));
+            }
+        }
+        Ok(())
     }
 
     /// Reads a list behind its first word: what is said of its size, and the type of its members.

@@ -2,7 +2,7 @@
 use Rattle.std.specs.Prelude.{◌≡◌, ◌≢◌, ◌&&◌, not, nat_eq, ℕ, Bool, true, false, List, Result, Err, IfErr}
 use Rattle.std.proofs.Common.{refl, lit<}
 use Rattle.x690.specs.Octets.{IsOctets}
-use Rattle.x690.specs.Identifiers.{IsCutIdentifier}
+use Rattle.x690.specs.Identifiers.{IsTruncatedIdentifier}
 use Rattle.x690.specs.Elements.{Parts, IsDerElement}
 use Rattle.asn1_headers.specs.Answers.{Front, Exactly, TellsMemory, IsOther}
 use Rattle.asn1_headers.specs.Error.{HeldIn}
@@ -131,7 +131,7 @@ choice_type T = record {
 pub record AnswersByDer {T : Type 0} (G : ItemGrammar T) (tags : List (ℕ × ℕ)) (input : List ℕ)
     (answer : Result (List ℕ × T) (Refusal Error)) : Type 0 where
   pub exact : IsOctets input →
-      Exactly IsCutIdentifier G.Der G.value (TellsMemory G.allocates (λ (e f : Error). f ≡ e)) input answer
+      Exactly IsTruncatedIdentifier G.Der G.value (TellsMemory G.allocates (λ (e f : Error). f ≡ e)) input answer
   pub no_memory : G.allocates ≡ false → IfErr answer (HeldIn (IsOther (λ (e f : Error). f ≡ e)))
   pub other : (p : Parts) (rest : List ℕ) → Front IsDerElement input p rest → has_a_tag tags p.id ≡ false →
       (e : Error) × NoArmRefusal tags p.id e × (answer ≡ Err (refused e))

@@ -2,7 +2,7 @@
 use Rattle.std.specs.Prelude.{ℕ, Bool, List}
 use Rattle.x690.specs.Identifiers.{Identifier}
 use Rattle.x690.specs.Elements.{Parts, ArePossible, IsDerElement}
-use Rattle.x690.specs.Joined.{IsOneFront}
+use Rattle.x690.specs.Joined.{IsPrefixFree}
 use Rattle.asn1_rs.specs.Grammar.Form.{IsOneForm, IsOneValue, FitsElement, HasValues, IsStrict, WritesByValue}
 use Rattle.asn1_rs.specs.Grammar.Form.{WritesForm, HasForm}
 use Rattle.asn1_rs.specs.Grammar.{IsOneBody, BerWord, FormBodies, FormChecks}
@@ -40,7 +40,7 @@ pub record IsLawfulItem {S : Type 0} (G : ItemGrammar S) : Type 0 where
   pub der_values : (o : List ℕ) (v : G.Value) → G.Der o v → G.IsValue v
   pub body_values : (p : Parts) (v : G.Value) → ArePossible p → G.Body p v → G.IsValue v
   pub form_values : HasValues G.Form G.IsValue
-  pub der_one : IsOneFront G.Der
+  pub der_one : IsPrefixFree G.Der
   pub body_one : IsOneBody G.Body
   pub one_form : IsOneForm G.Form
   pub one_value : IsOneValue G.Form

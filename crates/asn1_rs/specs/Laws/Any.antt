@@ -10,12 +10,12 @@ use Rattle.x690.specs.Identifiers.{Identifier, IsIdentifier}
 use Rattle.x690.specs.Laws.Identifiers.{identifier_unique}
 use Rattle.x690.specs.Lengths.{LengthForm, definite, indefinite}
 use Rattle.x690.specs.Elements.{Parts, IsDerElement}
-use Rattle.x690.specs.Faults.{Breach, Fault, tag_fault, IsLackingOrCut}
+use Rattle.x690.specs.Faults.{Violation, Fault, tag_fault, IsLackingOrTruncated}
 use Rattle.x690.specs.Nested.{IsElement}
 use Rattle.x690.specs.Nested.Contents.{IsContent}
 use Rattle.x690.specs.Laws.Nested.Contents.{content_unique, content_extends, one_content_fault, content_or_fault}
 use Rattle.asn1_headers.specs.declared.error.Err.{Err as Refusal}
-use Rattle.asn1_headers.specs.declared.error.Err.TheVariants.{Incomplete as cut, Error as refused, Failure as failed}
+use Rattle.asn1_headers.specs.declared.error.Err.TheVariants.{Incomplete as truncated, Error as refused, Failure as failed}
 use Rattle.asn1_headers.specs.declared.error.Error.TheVariants.{InvalidTag}
 use Rattle.asn1_headers.specs.Error.{Converted}
 use Rattle.asn1_headers.specs.declared.error.Error.{Error}
@@ -35,23 +35,23 @@ use Rattle.asn1_headers.specs.Content.{ContentStays}
 -- Readers of elements.
 
 -- as the fault that it tells of
-pub tells_beginning : (refuses : Breach → Error) (fault : Fault) (r : Refusal Error) (ends_within : Type 0)
-    (more : List ℕ) → r ≡ refusal_of refuses fault → IsLackingOrCut ends_within fault more →
+pub tells_beginning : (refuses : Violation → Error) (fault : Fault) (r : Refusal Error) (ends_within : Type 0)
+    (more : List ℕ) → r ≡ refusal_of refuses fault → IsLackingOrTruncated ends_within fault more →
     TellsBeginning ends_within r more
 tells_beginning at fault r ends_within more e (inl l) = inl (l.0, e ∙ ap (refusal_of at) l.1, l.2)
 tells_beginning at fault r ends_within more e (inr c) = inr (e ∙ ap (refusal_of at) c.0, c.1)
 
-module _ (ElementOf : List ℕ → Parts → Type 0) (FaultOf : List ℕ → Fault → Type 0) (IsCut : List ℕ → Type 0)
-    (elements : AreElements ElementOf FaultOf IsCut) (refuses : Breach → Error) where
+module _ (ElementOf : List ℕ → Parts → Type 0) (FaultOf : List ℕ → Fault → Type 0) (IsTruncated : List ℕ → Type 0)
+    (elements : AreElements ElementOf FaultOf IsTruncated) (refuses : Violation → Error) where
   -- what such a reader may answer
   abbrev Gives : List ℕ → Result (List ℕ × Any) (Refusal Error) → Type 0
   Gives = AnyGives ElementOf FaultOf (refusal_of refuses)
 
   -- What a refusal says of more octets holds of them.
-  pub refusal_lasts : (input : List ℕ) (r : Refusal Error) → Gives input (Err r) → RefusalLasts ElementOf IsCut input r
+  pub refusal_lasts : (input : List ℕ) (r : Refusal Error) → Gives input (Err r) → RefusalLasts ElementOf IsTruncated input r
   refusal_lasts input r g = λ more word rest p s a e.
       elements.final input more word rest p g.0 g.1
-      (speaks_itself refuses g.0 r (IsCut input) more (elements.counts input g.0 g.1) g.2 s) a e
+      (speaks_itself refuses g.0 r (IsTruncated input) more (elements.counts input g.0 g.1) g.2 s) a e
 
   -- An element that was read is read with more octets behind it, too.
   pub element_lasts : (input : List ℕ) (x : List ℕ × Any) → Gives input (Ok x) → ElementLasts ElementOf input x.0 x.1
@@ -67,12 +67,12 @@ module _ (ElementOf : List ℕ → Parts → Type 0) (FaultOf : List ℕ → Fau
 
   -- An input that further octets would make begin with an element is refused as the beginning of one.
   pub beginning_refused : (input more word rest : List ℕ) (p : Parts) (r : Refusal Error) → Gives input (Err r) →
-      ElementOf word p → input ++ more ≡ word ++ rest → TellsBeginning (IsCut input) r more
+      ElementOf word p → input ++ more ≡ word ++ rest → TellsBeginning (IsTruncated input) r more
   beginning_refused input more word rest p r g a e =
-      tells_beginning refuses g.0 r (IsCut input) more g.2 (elements.beginning input more word rest p g.0 g.1 a e)
+      tells_beginning refuses g.0 r (IsTruncated input) more g.2 (elements.beginning input more word rest p g.0 g.1 a e)
 
   -- Octets that end within identifier octets are refused with `InvalidTag`.
-  pub within_refused : (input : List ℕ) (answer : Result (List ℕ × Any) (Refusal Error)) → IsCut input →
+  pub within_refused : (input : List ℕ) (answer : Result (List ℕ × Any) (Refusal Error)) → IsTruncated input →
       Gives input answer → answer ≡ Err (refused InvalidTag)
   within_refused input (Ok x) c g = absurd (elements.final input [] g.front.word x.0 (parts_of x.1) tag_fault
       (elements.within input c) (inl refl) g.front.fits (append-nil input ∙ g.front.is))
@@ -87,7 +87,7 @@ module _ (ElementOf : List ℕ → Parts → Type 0) (FaultOf : List ℕ → Fau
   pub element_or_refusal : (input : List ℕ) (x : List ℕ × Any) (r : Refusal Error) → Gives input (Ok x) →
       Gives input (Err r) → ⊥
   element_or_refusal input x r f g = refusal_lasts input r g [] f.front.word x.0 (parts_of x.1)
-      (speaks_now (IsCut input) r) f.front.fits (append-nil input ∙ f.front.is)
+      (speaks_now (IsTruncated input) r) f.front.fits (append-nil input ∙ f.front.is)
 
 -- Readers of contents octets.
 
@@ -169,7 +169,7 @@ raw_tag_told ElementOf FaultOf refusal input identifier more id (Err r) i e g = 
 
 -- errors that stay as they are keep the refusal
 same_refusal : (q r : Refusal Error) → Converted (λ (e f : Error). f ≡ e) q r → r ≡ q
-same_refusal (cut n) r c = c
+same_refusal (truncated n) r c = c
 same_refusal (refused e) r c = c.2 ∙ ap refused c.1
 same_refusal (failed e) r c = c.2 ∙ ap failed c.1
 

@@ -2,13 +2,13 @@
 use Rattle.std.proofs.Common.{arith, ◌≡◌, ◌∙◌, ap, sym, ℕ, ◌<◌, inl, inr, List, ◌++◌, length, append_assoc}
 use Rattle.std.proofs.Common.{length-append}
 use Rattle.std.specs.Prelude.{Result, Ok, Err}
-use Rattle.x690.specs.Identifiers.{Identifier, IsCutIdentifier}
+use Rattle.x690.specs.Identifiers.{Identifier, IsTruncatedIdentifier}
 use Rattle.x690.specs.Lengths.{LengthForm}
 use Rattle.x690.specs.Elements.{Parts, IsHeader}
 use Rattle.x690.specs.Rules.{Rule}
-use Rattle.x690.specs.Faults.{Breach, Fault}
+use Rattle.x690.specs.Faults.{Violation, Fault}
 use Rattle.x690.specs.Laws.Headers.{header_unique}
-use Rattle.x690.specs.Joined.{IsOneFront}
+use Rattle.x690.specs.Joined.{IsPrefixFree}
 use Rattle.asn1_headers.specs.declared.error.Err.{Err as Refusal}
 use Rattle.asn1_headers.specs.declared.error.Error.{Error}
 use Rattle.asn1_headers.specs.declared.header.Header.{Header}
@@ -35,7 +35,7 @@ moved input more front left word rest e h =
     sym (append_assoc front left more) ∙ ap (λ (ys : List ℕ). ys ++ more) (sym e) ∙ h
 
 -- No word begins octets that are shorter than a word that more of them make.
-pub no_front_of_beginning : {V : Type 0} (G : List ℕ → V → Type 0) → IsOneFront G →
+pub no_front_of_beginning : {V : Type 0} (G : List ℕ → V → Type 0) → IsPrefixFree G →
     (input more word rest left : List ℕ) (v w : V) → Front G input v left → G word w → input ++ more ≡ word ++ rest →
     length input < length word → ⊥
 no_front_of_beginning G one input more word rest left v w f g e l =
@@ -45,20 +45,20 @@ no_front_of_beginning G one input more word rest left v w f g e l =
 
 -- Octets shorter than an element that more of them make are refused as its beginning.
 pub beginning_is_refused : (ElementOf : List ℕ → Parts → Type 0) (FaultOf : List ℕ → Fault → Type 0)
-    (IsCut : List ℕ → Type 0) → AreElements ElementOf FaultOf IsCut → (refuses : Breach → Error) →
+    (IsTruncated : List ℕ → Type 0) → AreElements ElementOf FaultOf IsTruncated → (refuses : Violation → Error) →
     (input more word rest : List ℕ) (p : Parts) (answer : Result (List ℕ × Any) (Refusal Error)) →
     AnyGives ElementOf FaultOf (refusal_of refuses) input answer → ElementOf word p → input ++ more ≡ word ++ rest →
-    length input < length word → RefusedAsBeginning (IsCut input) more answer
-beginning_is_refused ElementOf FaultOf IsCut elements at input more word rest p (Ok x) g a e l =
+    length input < length word → RefusedAsBeginning (IsTruncated input) more answer
+beginning_is_refused ElementOf FaultOf IsTruncated elements at input more word rest p (Ok x) g a e l =
     absurd (no_front_of_beginning ElementOf elements.one input more word rest x.0 (parts_of x.1) p g.front a e l)
-beginning_is_refused ElementOf FaultOf IsCut elements at input more word rest p (Err r) g a e l =
-    beginning_refused ElementOf FaultOf IsCut elements at input more word rest p r g a e
+beginning_is_refused ElementOf FaultOf IsTruncated elements at input more word rest p (Err r) g a e l =
+    beginning_refused ElementOf FaultOf IsTruncated elements at input more word rest p r g a e
 
 -- Octets shorter than a header that more of them make are refused as its beginning.
-pub header_beginning_is_refused : (rule : Rule) (refuses : Breach → Error) (input more front rest : List ℕ)
+pub header_beginning_is_refused : (rule : Rule) (refuses : Violation → Error) (input more front rest : List ℕ)
     (id : Identifier) (form : LengthForm) (answer : Result (List ℕ × Header) (Refusal Error)) →
     HeaderGives rule (refusal_of refuses) input answer → IsHeader rule front id form → input ++ more ≡ front ++ rest →
-    length input < length front → RefusedAsBeginning (IsCutIdentifier input) more answer
+    length input < length front → RefusedAsBeginning (IsTruncatedIdentifier input) more answer
 header_beginning_is_refused rule at input more front rest id form (Ok x) g h e l =
     let u = header_unique rule rule g.octets front (x.0 ++ more) rest (identifier_of x.1) id
     (form_of x.1.length) form g.header h (moved input more g.octets x.0 front rest g.is e) in
@@ -67,13 +67,13 @@ header_beginning_is_refused rule at input more front rest id form (Err r) g h e 
     header_beginning_refused rule at input more front rest id form r g h e
 
 -- by a reader that is exact
-pub word_beginning_is_refused : {T V E : Type 0} (IsCut : List ℕ → Type 0) (G : List ℕ → V → Type 0) (value : T → V)
-    (memory : Refusal E → Type 0) → IsOneFront G →
-    (input : List ℕ) (answer : Result (List ℕ × T) (Refusal E)) → Exactly IsCut G value memory input answer →
+pub word_beginning_is_refused : {T V E : Type 0} (IsTruncated : List ℕ → Type 0) (G : List ℕ → V → Type 0) (value : T → V)
+    (memory : Refusal E → Type 0) → IsPrefixFree G →
+    (input : List ℕ) (answer : Result (List ℕ × T) (Refusal E)) → Exactly IsTruncated G value memory input answer →
     (more word rest : List ℕ) (v : V) → G word v → input ++ more ≡ word ++ rest → length input < length word →
-    RefusedBeforeEnd memory (IsCut input) more answer
-word_beginning_is_refused IsCut G value memory one input (Ok x) f more word rest v g e l =
+    RefusedBeforeEnd memory (IsTruncated input) more answer
+word_beginning_is_refused IsTruncated G value memory one input (Ok x) f more word rest v g e l =
     absurd (no_front_of_beginning G one input more word rest x.0 (value x.1) v f g e l)
-word_beginning_is_refused IsCut G value memory one input (Err r) (inl m) more word rest v g e l = inl m
-word_beginning_is_refused IsCut G value memory one input (Err r) (inr final) more word rest v g e l =
+word_beginning_is_refused IsTruncated G value memory one input (Err r) (inl m) more word rest v g e l = inl m
+word_beginning_is_refused IsTruncated G value memory one input (Err r) (inr final) more word rest v g e l =
     inr (λ s. final more s word rest v e g)

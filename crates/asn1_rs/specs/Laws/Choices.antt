@@ -1,4 +1,5 @@
 -- Arms that are told apart are lawful, and so is a choice of them.
+pub mod Nested
 pub mod Readers
 use Rattle.std.proofs.Common.{◌≡◌, ◌≢◌, ◌∙◌, ap, sym, subst, refl, arith, ℕ, ◌<◌, ◌^◌, inl, inr, ◌⊎◌, Bool, true, false, List}
 use Rattle.std.proofs.Common.{[], ◌∷◌, ◌++◌, length, Result, Ok, Err}
@@ -8,15 +9,15 @@ use mathlib.Core.Logic.{∥∥₁_map}
 use mathlib.Core.HLevel.{prop→set, ⊥_prop}
 use mathlib.Core.Sum.{⊎_set}
 use Rattle.x690.specs.Octets.{IsOctets}
-use Rattle.x690.specs.Identifiers.{Identifier, IsCutIdentifier}
+use Rattle.x690.specs.Identifiers.{Identifier, IsTruncatedIdentifier}
 use Rattle.x690.specs.Rules.{der_rule}
 use Rattle.x690.specs.Elements.{Parts, ArePossible, IsDerElement}
 use Rattle.x690.specs.Faults.{DerElementFault}
-use Rattle.x690.specs.Joined.{IsOneFront}
+use Rattle.x690.specs.Joined.{IsPrefixFree}
 use Rattle.x690.specs.Laws.StrictElements.{der_allows_strict}
 use Rattle.asn1_headers.specs.Answers.{Front, Exactly, TellsMemory, IsOther, Speaks}
 use Rattle.asn1_headers.specs.Error.{HeldIn}
-use Rattle.asn1_headers.specs.Header.Reading.{der_breach}
+use Rattle.asn1_headers.specs.Header.Reading.{der_violation}
 use Rattle.asn1_headers.specs.declared.error.Err.{Err as Refusal}
 use Rattle.asn1_headers.specs.declared.error.Error.{Error}
 use Rattle.asn1_headers.specs.declared.error.SerializeError.{SerializeError}
@@ -127,7 +128,7 @@ pub record AreLawfulArms {S : Type 0} (G : ArmsGrammar S) : Type 0 where
   pub der_values : (i : Identifier) (o : List ℕ) (v : G.Value) → G.Der i o v → G.IsValue v
   pub body_values : (p : Parts) (v : G.Value) → ArePossible p → G.Body p v → G.IsValue v
   pub form_values : HasValues G.Form G.IsValue
-  pub der_one : (i : Identifier) → IsOneFront (G.Der i)
+  pub der_one : (i : Identifier) → IsPrefixFree (G.Der i)
   pub body_one : IsOneBody G.Body
   pub one_form : IsOneForm G.Form
   pub one_value : IsOneValue G.Form
@@ -173,8 +174,8 @@ module _ {A B : Type 0} (class number : ℕ) (G : ItemGrammar A) (H : ArmsGramma
   Arms = or_arms class number G H
 
   -- words of one identifier, of which one alone begins an input
-  both_one : (b : Bool) (P : List ℕ → G.Value → Type 0) (Q : List ℕ → H.Value → Type 0) → IsOneFront P → IsOneFront Q →
-      IsOneFront (λ o. ByTag b (P o) (Q o))
+  both_one : (b : Bool) (P : List ℕ → G.Value → Type 0) (Q : List ℕ → H.Value → Type 0) → IsPrefixFree P → IsPrefixFree Q →
+      IsPrefixFree (λ o. ByTag b (P o) (Q o))
   both_one b P Q p q = record { one = one; some = some }
     where
       one : (x y r s : List ℕ) (v w : G.Value ⊎ H.Value) → ByTag b (P x) (Q x) v → ByTag b (P y) (Q y) w →
@@ -335,7 +336,7 @@ pub record AreLawfulPuts {S : Type 0} (G : ArmsGrammar S) (arm_of : S → Chosen
   pub der_form : (x : S) → G.IsDer (G.value x) → length (arm_content (arm_of x)) < 2 ^ 64 →
       ∥ ((i : Identifier) × G.Form (G.value x) i (arm_content (arm_of x))) ∥₁
   pub der_writable : (x : S) → G.IsDer (G.value x) → IsArmWritable (arm_of x)
-  pub in_hand : (x : S) → HasArmValue (arm_of x) → G.IsValue (G.value x)
+  pub assert_valid : (x : S) → HasArmValue (arm_of x) → G.IsValue (G.value x)
 
 -- So of no arms.
 pub no_puts : AreLawfulPuts no_arms none_chosen
@@ -345,7 +346,7 @@ no_puts = record {
   form = λ x i c f. absurd (no_value x);
   der_form = λ x d l. absurd (no_value x);
   der_writable = λ x d. absurd (no_value x);
-  in_hand = λ x h. no_value x;
+  assert_valid = λ x h. no_value x;
 }
 
 module _ {A B : Type 0} (class number : ℕ) (G : ItemGrammar A) (H : ArmsGrammar B) (w : Writing A)
@@ -381,9 +382,9 @@ module _ {A B : Type 0} (class number : ℕ) (G : ItemGrammar A) (H : ArmsGramma
   put_der (arm.This x) d = k.der_writable x d
   put_der (arm.Other y) d = m.der_writable y d
 
-  put_in_hand : (x : Or A B class) → HasArmValue (of x) → Both.IsValue (Both.value x)
-  put_in_hand (arm.This x) h = h
-  put_in_hand (arm.Other y) h = m.in_hand y h
+  assert_put_valid : (x : Or A B class) → HasArmValue (of x) → Both.IsValue (Both.value x)
+  assert_put_valid (arm.This x) h = h
+  assert_put_valid (arm.Other y) h = m.assert_valid y h
 
   -- So of a type before others.
   pub or_puts : AreLawfulPuts Both of
@@ -393,7 +394,7 @@ module _ {A B : Type 0} (class number : ℕ) (G : ItemGrammar A) (H : ArmsGramma
     form = put_form;
     der_form = put_der_form;
     der_writable = put_der;
-    in_hand = put_in_hand;
+    assert_valid = assert_put_valid;
   }
 
 -- what has no refusal of its own has none in a vector

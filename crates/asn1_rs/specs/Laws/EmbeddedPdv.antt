@@ -85,7 +85,7 @@ one_flat : (fault : Fault) (e f : Error) → Flat fault e → Flat fault f → e
 one_flat (missing n) e f a b = a ∙ sym b
 one_flat tag_fault e f a b = a ∙ sym b
 one_flat length_fault e f a b = a ∙ sym b
-one_flat (rule_fault breach) e f a b = a ∙ sym b
+one_flat (rule_fault violation) e f a b = a ∙ sym b
 one_flat depth_fault e f a b = a ∙ sym b
 
 -- It does not report out of memory.
@@ -93,7 +93,7 @@ flat_no_memory : (fault : Fault) → Flat fault errors.OutOfMemory → ⊥
 flat_no_memory (missing n) a = cc
 flat_no_memory tag_fault a = cc
 flat_no_memory length_fault a = cc
-flat_no_memory (rule_fault breach) a = cc
+flat_no_memory (rule_fault violation) a = cc
 flat_no_memory depth_fault a = cc
 
 -- Octets with no element have one refusal.

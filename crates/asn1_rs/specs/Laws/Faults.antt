@@ -1,30 +1,30 @@
 -- What readers of elements refuse before all else: octets that no header begins, and elements that are cut.
 use Rattle.std.proofs.Common.{◌≡◌, ◌⊎◌, ◌∙◌, ap, sym, subst, zero, suc, ℕ, List, [], inl, inr, append-nil}
 use Rattle.std.specs.Prelude.{Result, Ok, Err}
-use Rattle.x690.specs.Identifiers.{IsCutIdentifier}
+use Rattle.x690.specs.Identifiers.{IsTruncatedIdentifier}
 use Rattle.x690.specs.Rules.{Rule, der_rule, ber_rule}
 use Rattle.x690.specs.Elements.{Parts, IsDerElement}
-use Rattle.x690.specs.Faults.{Breach, Fault, missing, tag_fault, length_fault, rule_fault, depth_fault, HeaderFault}
+use Rattle.x690.specs.Faults.{Violation, Fault, missing, tag_fault, length_fault, rule_fault, depth_fault, HeaderFault}
 use Rattle.x690.specs.Faults.{DerElementFault}
 use Rattle.x690.specs.Nested.{IsElement, ElementFault}
 use Rattle.x690.specs.Laws.Faults.{CountsSome, speaks_now}
 use Rattle.asn1_rs.specs.declared.asn1_types.any.Any.{Any}
 use Rattle.asn1_headers.specs.declared.error.Err.{Err as Refusal}
-use Rattle.asn1_headers.specs.declared.error.Err.TheVariants.{Incomplete as cut}
+use Rattle.asn1_headers.specs.declared.error.Err.TheVariants.{Incomplete as truncated}
 use Rattle.asn1_headers.specs.declared.error.Needed.{Needed}
 use Rattle.asn1_headers.specs.declared.error.Needed.TheVariants.{Size}
 use Rattle.asn1_headers.specs.declared.error.Error.{Error}
 use Rattle.asn1_headers.specs.Answers.{Front}
 use Rattle.asn1_headers.specs.Ber.{max_depth, EndsWithin}
 use Rattle.asn1_headers.specs.Error.{Converted}
-use Rattle.asn1_headers.specs.Header.Reading.{HeaderGives, refusal_of, der_breach, ber_breach}
+use Rattle.asn1_headers.specs.Header.Reading.{HeaderGives, refusal_of, der_violation, ber_violation}
 use Rattle.asn1_rs.specs.Any.{parts_of}
 use Rattle.asn1_rs.specs.Laws.Readers.{AreElements, ber_elements, der_elements}
 use Rattle.asn1_headers.specs.declared.tag.Tag.{Tag}
 use Rattle.asn1_rs.specs.Tagged.{OfElement, ReadsWhole, ThenGives, ThenByBer, ThenByDer}
 use Rattle.asn1_rs.specs.Tagged.Explicit.{ExplicitGives}
 use Rattle.asn1_rs.specs.Tagged.Parser.{TakesExplicit, TakesWhole, TakesImplicit}
-use Rattle.asn1_rs.specs.Faults.{TellsHeaderFirst, LacksOctets, CutsAreCounted, CutsAreCountedOrWithin}
+use Rattle.asn1_rs.specs.Faults.{TellsHeaderFirst, LacksOctets, TruncationsAreCounted, TruncationsAreCountedOrWithin}
 use Rattle.asn1_rs.specs.Traits.{BerGives, DerGives, ElementGives, PassesAll}
 
 -- a fault of the header is one of the element by BER
@@ -34,8 +34,8 @@ unfolding ElementFault
 ber_header_fault zero octets fault why = inl why
 ber_header_fault (suc depth) octets fault why = inl why
 
-module _ (ElementOf : List ℕ → Parts → Type 0) (FaultOf : List ℕ → Fault → Type 0) (IsCut : List ℕ → Type 0)
-    (elements : AreElements ElementOf FaultOf IsCut) (rule : Rule) (refuses : Breach → Error)
+module _ (ElementOf : List ℕ → Parts → Type 0) (FaultOf : List ℕ → Fault → Type 0) (IsTruncated : List ℕ → Type 0)
+    (elements : AreElements ElementOf FaultOf IsTruncated) (rule : Rule) (refuses : Violation → Error)
     (is_fault : (octets : List ℕ) (fault : Fault) → HeaderFault rule octets fault → FaultOf octets fault)
     (E : Type 0) (from : Error → E → Type 0) where
   -- the refusal of a fault of the element, or an element that begins the octets
@@ -52,7 +52,7 @@ module _ (ElementOf : List ℕ → Parts → Type 0) (FaultOf : List ℕ → Fau
   header_first octets q r h (inr (p, rest, front)) =
       let why : FaultOf octets h.0 = is_fault octets h.0 h.1 in
       absurd (elements.final octets [] front.word rest p h.0 why
-      (speaks_now (IsCut octets) h.0 (elements.counts octets h.0 why)) front.fits (append-nil octets ∙ front.is))
+      (speaks_now (IsTruncated octets) h.0 (elements.counts octets h.0 why)) front.fits (append-nil octets ∙ front.is))
 
   -- so refuses a reader that reads an element first
   pub element_first : {T : Type 0} (check : Parts → Result (Unit {0}) Error → Type 0)
@@ -63,135 +63,135 @@ module _ (ElementOf : List ℕ → Parts → Type 0) (FaultOf : List ℕ → Fau
       header_first octets q r h (inr (parts_of any, rest, begins.front))
 
   -- a fault that is told by `Incomplete` is that octets are missing
-  pub cut_of_fault : (octets : List ℕ) (needed : Needed) (fault : Fault) → FaultOf octets fault →
-      Converted from (refusal_of refuses fault) (cut needed) → LacksOctets FaultOf octets needed
-  cut_of_fault octets needed (missing n) f c =
+  pub truncated_of_fault : (octets : List ℕ) (needed : Needed) (fault : Fault) → FaultOf octets fault →
+      Converted from (refusal_of refuses fault) (truncated needed) → LacksOctets FaultOf octets needed
+  truncated_of_fault octets needed (missing n) f c =
       let same : needed ≡ Size n = cc in
       let some : CountsSome (missing n) = elements.counts octets (missing n) f in
       (n, same, some, f)
-  cut_of_fault octets needed tag_fault f c = let e = c.2 in cc
-  cut_of_fault octets needed length_fault f c = let e = c.2 in cc
-  cut_of_fault octets needed (rule_fault breach) f c = let e = c.2 in cc
-  cut_of_fault octets needed depth_fault f c = let e = c.2 in cc
+  truncated_of_fault octets needed tag_fault f c = let e = c.2 in cc
+  truncated_of_fault octets needed length_fault f c = let e = c.2 in cc
+  truncated_of_fault octets needed (rule_fault violation) f c = let e = c.2 in cc
+  truncated_of_fault octets needed depth_fault f c = let e = c.2 in cc
 
   -- A reader that reads an element first tells no other cut.
-  pub element_cuts : {T : Type 0} (check : Parts → Result (Unit {0}) Error → Type 0)
+  pub element_truncations : {T : Type 0} (check : Parts → Result (Unit {0}) Error → Type 0)
       (convert : Any → Result T E → Type 0) →
-      CutsAreCounted FaultOf (ElementGives ElementOf FaultOf (refusal_of refuses) check convert from)
-  element_cuts check convert octets needed (inl (fault, f, c)) = cut_of_fault octets needed fault f c
-  element_cuts check convert octets needed (inr (any, rest, begins, inl (e, checked, (f, m, is)))) = cc
-  element_cuts check convert octets needed (inr (any, rest, begins, inr (checked, (e, v, is)))) = cc
+      TruncationsAreCounted FaultOf (ElementGives ElementOf FaultOf (refusal_of refuses) check convert from)
+  element_truncations check convert octets needed (inl (fault, f, c)) = truncated_of_fault octets needed fault f c
+  element_truncations check convert octets needed (inr (any, rest, begins, inl (e, checked, (f, m, is)))) = cc
+  element_truncations check convert octets needed (inr (any, rest, begins, inr (checked, (e, v, is)))) = cc
 
   -- the refusal of a fault, or that of what is called on the element, which is one of its contents octets
-  pub then_cuts : {S T : Type 0} (within : List ℕ → Result (List ℕ × S) (Refusal E) → Type 0)
+  pub then_truncations : {S T : Type 0} (within : List ℕ → Result (List ℕ × S) (Refusal E) → Type 0)
       (takes : OfElement (Result (List ℕ × T) (Refusal E))) →
-      ((any : Any) (rest : List ℕ) (needed : Needed) → takes any rest (Err (cut needed)) →
-      within any.content.now (Err (cut needed))) →
-      CutsAreCountedOrWithin FaultOf ElementOf within (ThenGives ElementOf FaultOf (refusal_of refuses) from takes)
-  then_cuts within takes told octets needed (inl (fault, f, c)) = inl (cut_of_fault octets needed fault f c)
-  then_cuts within takes told octets needed (inr (any, rest, begins, taken)) =
+      ((any : Any) (rest : List ℕ) (needed : Needed) → takes any rest (Err (truncated needed)) →
+      within any.content.now (Err (truncated needed))) →
+      TruncationsAreCountedOrWithin FaultOf ElementOf within (ThenGives ElementOf FaultOf (refusal_of refuses) from takes)
+  then_truncations within takes told octets needed (inl (fault, f, c)) = inl (truncated_of_fault octets needed fault f c)
+  then_truncations within takes told octets needed (inr (any, rest, begins, taken)) =
       inr (parts_of any, rest, begins.front, told any rest needed taken)
 
   -- or none, where what is called tells no cut
-  pub then_no_cuts : {T : Type 0} (takes : OfElement (Result (List ℕ × T) (Refusal E))) →
-      ((any : Any) (rest : List ℕ) (needed : Needed) → takes any rest (Err (cut needed)) → ⊥) →
-      CutsAreCounted FaultOf (ThenGives ElementOf FaultOf (refusal_of refuses) from takes)
-  then_no_cuts takes none octets needed (inl (fault, f, c)) = cut_of_fault octets needed fault f c
-  then_no_cuts takes none octets needed (inr (any, rest, begins, taken)) = absurd (none any rest needed taken)
+  pub then_no_truncations : {T : Type 0} (takes : OfElement (Result (List ℕ × T) (Refusal E))) →
+      ((any : Any) (rest : List ℕ) (needed : Needed) → takes any rest (Err (truncated needed)) → ⊥) →
+      TruncationsAreCounted FaultOf (ThenGives ElementOf FaultOf (refusal_of refuses) from takes)
+  then_no_truncations takes none octets needed (inl (fault, f, c)) = truncated_of_fault octets needed fault f c
+  then_no_truncations takes none octets needed (inr (any, rest, begins, taken)) = absurd (none any rest needed taken)
 
 -- By DER so do readers of types with a check, of lists, and of values under implicit tags.
 pub der_header_first : {T E : Type 0} (check : Parts → Result (Unit {0}) Error → Type 0)
     (convert : Any → Result T E → Type 0) (from : Error → E → Type 0) →
-    TellsHeaderFirst der_rule der_breach from (DerGives check convert from)
+    TellsHeaderFirst der_rule der_violation from (DerGives check convert from)
 der_header_first {T} {E} check convert from =
-    element_first IsDerElement DerElementFault IsCutIdentifier der_elements der_rule der_breach (λ o f why. inl why) E
+    element_first IsDerElement DerElementFault IsTruncatedIdentifier der_elements der_rule der_violation (λ o f why. inl why) E
     from check convert
 
 -- They tell no other cut than that of the element.
-pub der_cuts : {T E : Type 0} (check : Parts → Result (Unit {0}) Error → Type 0)
+pub der_truncations : {T E : Type 0} (check : Parts → Result (Unit {0}) Error → Type 0)
     (convert : Any → Result T E → Type 0) (from : Error → E → Type 0) →
-    CutsAreCounted DerElementFault (DerGives check convert from)
-der_cuts {T} {E} check convert from =
-    element_cuts IsDerElement DerElementFault IsCutIdentifier der_elements der_rule der_breach (λ o f why. inl why) E
+    TruncationsAreCounted DerElementFault (DerGives check convert from)
+der_truncations {T} {E} check convert from =
+    element_truncations IsDerElement DerElementFault IsTruncatedIdentifier der_elements der_rule der_violation (λ o f why. inl why) E
     from check convert
 
 -- So do those of values under explicit tags.
 pub explicit_header_first : {T W E : Type 0} (class number : ℕ) (inner : W → T)
     (reads : List ℕ → Result (List ℕ × T) (Refusal E) → Type 0) (from : Error → E → Type 0) →
-    TellsHeaderFirst der_rule der_breach from (ExplicitGives class number inner reads from)
+    TellsHeaderFirst der_rule der_violation from (ExplicitGives class number inner reads from)
 explicit_header_first {T} {W} {E} class number inner reads from octets q r h (inl f) =
-    header_first IsDerElement DerElementFault IsCutIdentifier der_elements der_rule der_breach (λ o f why. inl why) E
+    header_first IsDerElement DerElementFault IsTruncatedIdentifier der_elements der_rule der_violation (λ o f why. inl why) E
     from octets q r h (inl f)
 explicit_header_first {T} {W} {E} class number inner reads from octets q r h (inr (p, rest, front, why)) =
-    header_first IsDerElement DerElementFault IsCutIdentifier der_elements der_rule der_breach (λ o f why. inl why) E
+    header_first IsDerElement DerElementFault IsTruncatedIdentifier der_elements der_rule der_violation (λ o f why. inl why) E
     from octets q r h (inr (p, rest, front))
 
 -- a cut of a value that is to be all of the octets is one of the reader of the value
-whole_cut : {T E : Type 0} (reads : List ℕ → Result (List ℕ × T) (Refusal E) → Type 0) (from : Error → E → Type 0)
-    (octets : List ℕ) (needed : Needed) → ReadsWhole reads from octets (Err (cut needed)) →
-    reads octets (Err (cut needed))
-whole_cut reads from octets needed (Ok x, gives, (left, (e, m, is))) = cc
-whole_cut {T} {E} reads from octets needed (Err own, gives, is) =
+whole_truncated : {T E : Type 0} (reads : List ℕ → Result (List ℕ × T) (Refusal E) → Type 0) (from : Error → E → Type 0)
+    (octets : List ℕ) (needed : Needed) → ReadsWhole reads from octets (Err (truncated needed)) →
+    reads octets (Err (truncated needed))
+whole_truncated reads from octets needed (Ok x, gives, (left, (e, m, is))) = cc
+whole_truncated {T} {E} reads from octets needed (Err own, gives, is) =
     subst (λ (r : Refusal E). reads octets (Err r)) (sym is) gives
 
 -- They tell that of the element, or that of the value.
-pub explicit_cuts : {T W E : Type 0} (class number : ℕ) (inner : W → T)
+pub explicit_truncations : {T W E : Type 0} (class number : ℕ) (inner : W → T)
     (reads : List ℕ → Result (List ℕ × T) (Refusal E) → Type 0) (from : Error → E → Type 0) →
-    CutsAreCountedOrWithin DerElementFault IsDerElement reads (ExplicitGives class number inner reads from)
-explicit_cuts {T} {W} {E} class number inner reads from octets needed (inl (fault, f, c)) =
-    inl (cut_of_fault IsDerElement DerElementFault IsCutIdentifier der_elements der_rule der_breach
+    TruncationsAreCountedOrWithin DerElementFault IsDerElement reads (ExplicitGives class number inner reads from)
+explicit_truncations {T} {W} {E} class number inner reads from octets needed (inl (fault, f, c)) =
+    inl (truncated_of_fault IsDerElement DerElementFault IsTruncatedIdentifier der_elements der_rule der_violation
     (λ o f why. inl why) E from octets needed fault f c)
-explicit_cuts class number inner reads from octets needed (inr (p, rest, front, inl (e, checked, (f, m, is)))) = cc
-explicit_cuts class number inner reads from octets needed (inr (p, rest, front, inr (checked, whole))) =
-    inr (p, rest, front, whole_cut reads from p.content needed whole)
+explicit_truncations class number inner reads from octets needed (inr (p, rest, front, inl (e, checked, (f, m, is)))) = cc
+explicit_truncations class number inner reads from octets needed (inr (p, rest, front, inr (checked, whole))) =
+    inr (p, rest, front, whole_truncated reads from p.content needed whole)
 
 -- By BER so does each conversion of an element.
 pub ber_header_first : {T E : Type 0} (convert : Any → Result T E → Type 0) (from : Error → E → Type 0) →
-    TellsHeaderFirst ber_rule ber_breach from (BerGives convert from)
+    TellsHeaderFirst ber_rule ber_violation from (BerGives convert from)
 ber_header_first {T} {E} convert from =
-    element_first (IsElement max_depth) (ElementFault max_depth) EndsWithin ber_elements ber_rule ber_breach
+    element_first (IsElement max_depth) (ElementFault max_depth) EndsWithin ber_elements ber_rule ber_violation
     (ber_header_fault max_depth) E from PassesAll convert
 
 -- It tells no other cut than that of the element.
-pub ber_cuts : {T E : Type 0} (convert : Any → Result T E → Type 0) (from : Error → E → Type 0) →
-    CutsAreCounted (ElementFault max_depth) (BerGives convert from)
-ber_cuts {T} {E} convert from =
-    element_cuts (IsElement max_depth) (ElementFault max_depth) EndsWithin ber_elements ber_rule ber_breach
+pub ber_truncations : {T E : Type 0} (convert : Any → Result T E → Type 0) (from : Error → E → Type 0) →
+    TruncationsAreCounted (ElementFault max_depth) (BerGives convert from)
+ber_truncations {T} {E} convert from =
+    element_truncations (IsElement max_depth) (ElementFault max_depth) EndsWithin ber_elements ber_rule ber_violation
     (ber_header_fault max_depth) E from PassesAll convert
 
 -- Parsers of explicit tags tell that of the element, or that of the value.
-pub ber_explicit_parser_cuts : (K : Type 0) {T E : Type 0} (reads : List ℕ → Result (List ℕ × T) (Refusal E) → Type 0)
+pub ber_explicit_parser_truncations : (K : Type 0) {T E : Type 0} (reads : List ℕ → Result (List ℕ × T) (Refusal E) → Type 0)
     (from : Error → E → Type 0) →
-    CutsAreCountedOrWithin (ElementFault max_depth) (IsElement max_depth) reads
+    TruncationsAreCountedOrWithin (ElementFault max_depth) (IsElement max_depth) reads
     (ThenByBer from (TakesExplicit {K = K} reads))
-ber_explicit_parser_cuts K {T} {E} reads from =
-    then_cuts (IsElement max_depth) (ElementFault max_depth) EndsWithin ber_elements ber_rule ber_breach
+ber_explicit_parser_truncations K {T} {E} reads from =
+    then_truncations (IsElement max_depth) (ElementFault max_depth) EndsWithin ber_elements ber_rule ber_violation
     (ber_header_fault max_depth) E from reads (TakesExplicit {K = K} reads) (λ any rest needed taken. taken)
 
-pub der_explicit_parser_cuts : (K : Type 0) {T E : Type 0} (reads : List ℕ → Result (List ℕ × T) (Refusal E) → Type 0)
+pub der_explicit_parser_truncations : (K : Type 0) {T E : Type 0} (reads : List ℕ → Result (List ℕ × T) (Refusal E) → Type 0)
     (from : Error → E → Type 0) →
-    CutsAreCountedOrWithin DerElementFault IsDerElement reads (ThenByDer from (TakesWhole {K = K} reads from))
-der_explicit_parser_cuts K {T} {E} reads from =
-    then_cuts IsDerElement DerElementFault IsCutIdentifier der_elements der_rule der_breach (λ o f why. inl why) E
+    TruncationsAreCountedOrWithin DerElementFault IsDerElement reads (ThenByDer from (TakesWhole {K = K} reads from))
+der_explicit_parser_truncations K {T} {E} reads from =
+    then_truncations IsDerElement DerElementFault IsTruncatedIdentifier der_elements der_rule der_violation (λ o f why. inl why) E
     from reads (TakesWhole {K = K} reads from)
-    (λ any rest needed taken. whole_cut reads from any.content.now needed taken)
+    (λ any rest needed taken. whole_truncated reads from any.content.now needed taken)
 
 -- what is converted under another number tells no cut
-no_cut_under : (K : Type 0) {T E : Type 0} (tag : Tag) (converts : Any → Result T E → Type 0) (any : Any)
-    (rest : List ℕ) (needed : Needed) → TakesImplicit {K = K} tag converts any rest (Err (cut needed)) → ⊥
-no_cut_under K tag converts any rest needed (other, under, (e, converted, is)) = cc
+no_truncated_under : (K : Type 0) {T E : Type 0} (tag : Tag) (converts : Any → Result T E → Type 0) (any : Any)
+    (rest : List ℕ) (needed : Needed) → TakesImplicit {K = K} tag converts any rest (Err (truncated needed)) → ⊥
+no_truncated_under K tag converts any rest needed (other, under, (e, converted, is)) = cc
 
 -- Parsers of implicit tags tell that of the element.
-pub ber_implicit_parser_cuts : (K : Type 0) {T E : Type 0} (tag : Tag) (converts : Any → Result T E → Type 0)
+pub ber_implicit_parser_truncations : (K : Type 0) {T E : Type 0} (tag : Tag) (converts : Any → Result T E → Type 0)
     (from : Error → E → Type 0) →
-    CutsAreCounted (ElementFault max_depth) (ThenByBer from (TakesImplicit {K = K} tag converts))
-ber_implicit_parser_cuts K {T} {E} tag converts from =
-    then_no_cuts (IsElement max_depth) (ElementFault max_depth) EndsWithin ber_elements ber_rule ber_breach
-    (ber_header_fault max_depth) E from (TakesImplicit {K = K} tag converts) (no_cut_under K tag converts)
+    TruncationsAreCounted (ElementFault max_depth) (ThenByBer from (TakesImplicit {K = K} tag converts))
+ber_implicit_parser_truncations K {T} {E} tag converts from =
+    then_no_truncations (IsElement max_depth) (ElementFault max_depth) EndsWithin ber_elements ber_rule ber_violation
+    (ber_header_fault max_depth) E from (TakesImplicit {K = K} tag converts) (no_truncated_under K tag converts)
 
-pub der_implicit_parser_cuts : (K : Type 0) {T E : Type 0} (tag : Tag) (converts : Any → Result T E → Type 0)
+pub der_implicit_parser_truncations : (K : Type 0) {T E : Type 0} (tag : Tag) (converts : Any → Result T E → Type 0)
     (from : Error → E → Type 0) →
-    CutsAreCounted DerElementFault (ThenByDer from (TakesImplicit {K = K} tag converts))
-der_implicit_parser_cuts K {T} {E} tag converts from =
-    then_no_cuts IsDerElement DerElementFault IsCutIdentifier der_elements der_rule der_breach (λ o f why. inl why) E
-    from (TakesImplicit {K = K} tag converts) (no_cut_under K tag converts)
+    TruncationsAreCounted DerElementFault (ThenByDer from (TakesImplicit {K = K} tag converts))
+der_implicit_parser_truncations K {T} {E} tag converts from =
+    then_no_truncations IsDerElement DerElementFault IsTruncatedIdentifier der_elements der_rule der_violation (λ o f why. inl why) E
+    from (TakesImplicit {K = K} tag converts) (no_truncated_under K tag converts)

@@ -11,7 +11,7 @@ use Rattle.x690.specs.Digits.{twos_complement_value}
 use Rattle.x690.specs.Identifiers.{Identifier}
 use Rattle.x690.specs.Lengths.{LengthForm, definite, indefinite}
 use Rattle.x690.specs.Elements.{Parts}
-use Rattle.x690.specs.Integers.{HasSpareZeros, HasSpareOnes, IsIntegerContent}
+use Rattle.x690.specs.Integers.{HasRedundantZeros, HasRedundantOnes, IsIntegerContent}
 use Rattle.x690.specs.Laws.Integers.{integer_content_unique, integer_content_one_value}
 use Rattle.asn1_headers.specs.declared.error.Error.{Error}
 use Rattle.asn1_headers.specs.declared.error.Error.TheVariants.{ConstructUnexpected, IndefiniteLengthUnexpected}
@@ -41,20 +41,20 @@ check_refusal false (definite n) (first ∷ others) =
     if nat_eq first 0 then DerConstraintFailed IntegerLeadingZeroes else DerConstraintFailed IntegerLeadingFF
 
 -- A leading octet of zeros that is spare is refused as such.
-spare_zeros_refused : (n : ℕ) (c : List ℕ) → HasSpareZeros c →
+redundant_zeros_refused : (n : ℕ) (c : List ℕ) → HasRedundantZeros c →
     check_refusal false (definite n) c ≡ DerConstraintFailed IntegerLeadingZeroes
 unfolding check_refusal
-spare_zeros_refused n [] h = absurd h
-spare_zeros_refused n (x ∷ []) h = absurd h
-spare_zeros_refused n (x ∷ y ∷ c) h = rw h.0 refl
+redundant_zeros_refused n [] h = absurd h
+redundant_zeros_refused n (x ∷ []) h = absurd h
+redundant_zeros_refused n (x ∷ y ∷ c) h = rw h.0 refl
 
 -- A leading octet of ones that is spare is refused as such.
-spare_ones_refused : (n : ℕ) (c : List ℕ) → HasSpareOnes c →
+redundant_ones_refused : (n : ℕ) (c : List ℕ) → HasRedundantOnes c →
     check_refusal false (definite n) c ≡ DerConstraintFailed IntegerLeadingFF
 unfolding check_refusal
-spare_ones_refused n [] h = absurd h
-spare_ones_refused n (x ∷ []) h = absurd h
-spare_ones_refused n (x ∷ y ∷ c) h = rw h.0 refl
+redundant_ones_refused n [] h = absurd h
+redundant_ones_refused n (x ∷ []) h = absurd h
+redundant_ones_refused n (x ∷ y ∷ c) h = rw h.0 refl
 
 -- Each refusal of the check is that one.
 check_refusal_is : (p : Parts) (e : Error) → IntegerCheckRefuses p e →
@@ -64,8 +64,8 @@ check_refusal_is p ConstructUnexpected h = rw h refl
 check_refusal_is p IndefiniteLengthUnexpected h = rw (h.0, h.1) refl
 check_refusal_is p (DerConstraintFailed IntegerEmpty) h = rw (h.0, h.1.1, h.2) refl
 check_refusal_is p (DerConstraintFailed IntegerLeadingZeroes) h =
-    rw (h.0, h.1.1) (spare_zeros_refused h.1.0 p.content h.2)
-check_refusal_is p (DerConstraintFailed IntegerLeadingFF) h = rw (h.0, h.1.1) (spare_ones_refused h.1.0 p.content h.2)
+    rw (h.0, h.1.1) (redundant_zeros_refused h.1.0 p.content h.2)
+check_refusal_is p (DerConstraintFailed IntegerLeadingFF) h = rw (h.0, h.1.1) (redundant_ones_refused h.1.0 p.content h.2)
 check_refusal_is p _ h = absurd h
 
 -- the check allows one refusal for one element

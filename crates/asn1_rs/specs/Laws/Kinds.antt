@@ -72,14 +72,14 @@ held_takes held G gives from exact any (Err e) o h = exact any (Err e) o h
 -- and so is a reader
 module _ {S T E : Type 0} (held : T → S) (reads : List ℕ → Result (List ℕ × S) (Refusal E) → Type 0) where
   -- A reader that answers what holds an item is as exact as that of the item.
-  pub held_reads : {V : Type 0} (IsCut : List ℕ → Type 0) (G : List ℕ → V → Type 0) (value : S → V)
+  pub held_reads : {V : Type 0} (IsTruncated : List ℕ → Type 0) (G : List ℕ → V → Type 0) (value : S → V)
       (memory : Refusal E → Type 0) →
       ((input : List ℕ) (answer : Result (List ℕ × S) (Refusal E)) → IsOctets input → reads input answer →
-      Exactly IsCut G value memory input answer) →
+      Exactly IsTruncated G value memory input answer) →
       (input : List ℕ) (answer : Result (List ℕ × T) (Refusal E)) → IsOctets input →
-      HoldingReads held reads input answer → Exactly IsCut G (λ x. value (held x)) memory input answer
-  held_reads IsCut G value memory exact input (Ok x) o h = exact input (Ok (x.0, held x.1)) o h
-  held_reads IsCut G value memory exact input (Err r) o h = exact input (Err r) o h
+      HoldingReads held reads input answer → Exactly IsTruncated G (λ x. value (held x)) memory input answer
+  held_reads IsTruncated G value memory exact input (Ok x) o h = exact input (Ok (x.0, held x.1)) o h
+  held_reads IsTruncated G value memory exact input (Err r) o h = exact input (Err r) o h
 
   -- What is so of each refusal of the item's reader is so of each of its refusals.
   pub held_no_memory : (P : Refusal E → Type 0) →

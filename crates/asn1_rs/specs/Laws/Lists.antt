@@ -11,20 +11,20 @@ use Rattle.std.specs.List.{All, AllZip, flat_map, concat}
 use Rattle.x690.specs.Strict.{header_octets}
 use Rattle.std.specs.Iterator.{Yields}
 use Rattle.x690.specs.Octets.{IsOctets}
-use Rattle.x690.specs.Identifiers.{Identifier, IsCutIdentifier}
+use Rattle.x690.specs.Identifiers.{Identifier, IsTruncatedIdentifier}
 use Rattle.x690.specs.Elements.{Parts, IsDerElement}
 use Rattle.x690.specs.Faults.{DerElementFault}
 use Rattle.x690.specs.Laws.Elements.{definite_element_two, definite_element_is_octets}
 use Rattle.asn1_headers.specs.declared.error.Err.{Err as Refusal}
-use Rattle.asn1_headers.specs.declared.error.Err.TheVariants.{Incomplete as cut, Error as refused, Failure as failed}
+use Rattle.asn1_headers.specs.declared.error.Err.TheVariants.{Incomplete as truncated, Error as refused, Failure as failed}
 use Rattle.asn1_headers.specs.declared.error.Error.{Error}
 use Rattle.asn1_headers.specs.declared.error.Error.TheVariants as errors
 use Rattle.x690.specs.Rules.{der_rule}
 use Rattle.x690.specs.Laws.StrictElements.{der_allows_strict}
-use Rattle.x690.specs.Joined.{IsOneFront, IsJoined}
+use Rattle.x690.specs.Joined.{IsPrefixFree, IsConcatenation}
 use Rattle.x690.specs.Laws.Collections.{zip_joined}
 use Rattle.x690.specs.Laws.Joined.{joined_map, joined_values, joined_octets, joined_one, joined_same, ends_unjoined}
-use Rattle.asn1_headers.specs.Header.Reading.{der_breach}
+use Rattle.asn1_headers.specs.Header.Reading.{der_violation}
 use Rattle.asn1_rs.specs.declared.asn1_types.any.Any.{Any}
 use Rattle.asn1_headers.specs.Error.{HeldIn, FlattenedTo}
 use Rattle.asn1_rs.specs.Kinds.{IsExactCheck}
@@ -49,7 +49,7 @@ use Rattle.asn1_rs.specs.Lists.{ListCheck, StrictWord, ListForm}
 use Rattle.asn1_rs.specs.Lists.{IsListOr, ItemsGive, ListTakes, CheckedGives, ListCheckGives, SomeRefuses}
 use Rattle.asn1_rs.specs.Lists.{has_items}
 use Rattle.asn1_rs.specs.ToDer.{HasNone, IsWritable, Writing, whole_octets, whole_refuses}
-use Rattle.asn1_rs.specs.Laws.Readers.{element_exact, element_no_memory, der_breach_no_memory, der_elements}
+use Rattle.asn1_rs.specs.Laws.Readers.{element_exact, element_no_memory, der_violation_no_memory, der_elements}
 use Rattle.asn1_rs.specs.Laws.Readers.{unchecked_exact}
 use Rattle.asn1_rs.specs.Laws.Words.{word_one, strict_element, one_strict, strict_apart, strict_der_word, ber_one}
 use Rattle.asn1_rs.specs.Laws.Words.{ber_values, strict_ber}
@@ -64,14 +64,14 @@ use Rattle.x690.specs.Laws.Equality.{list_set}
 pub takes_some : {A : Type 0} → true ≡ false → A
 takes_some e = cc
 
-module _ {V : Type 0} (G : List ℕ → V → Type 0) (one : IsOneFront G) where
+module _ {V : Type 0} (G : List ℕ → V → Type 0) (one : IsPrefixFree G) where
   -- An element has one list, where one word of an item alone begins an input.
   pub list_body_one : (Shape : Parts → Type 0) → IsOneBody (ShapedList Shape G)
   list_body_one Shape p v w a b = joined_same G one p.content p.content v w refl a.items b.items
 
 -- strict encodings are words that begin one input in one way
 pub strict_word_one : {V : Type 0} (Form : V → Identifier → List ℕ → Type 0) → IsOneValue Form →
-    IsOneFront (StrictWord Form)
+    IsPrefixFree (StrictWord Form)
 strict_word_one Form one = record {
   one = λ x y r s v w a b e. let u = strict_apart Form one v w x y r s a b e in (u.0, u.1);
   some = λ v a.
@@ -86,7 +86,7 @@ strict_word_octets Form o v s =
     definite_element_is_octets der_rule o _ (strict_element der_rule der_allows_strict Form v o s)
 
 -- One checked element alone begins an input.
-pub checked_one : (Check : Parts → Type 0) → IsOneFront (CheckedElement Check)
+pub checked_one : (Check : Parts → Type 0) → IsPrefixFree (CheckedElement Check)
 checked_one Check = record {
   one = λ x y r s p q a b e. der_elements.one.one x y r s p q a.0 b.0 e;
   some = λ p a. der_elements.one.some p a.0;
@@ -97,17 +97,17 @@ checked_one Check = record {
 module _ {V : Type 0} (Form : V → Identifier → List ℕ → Type 0) (number : ℕ) where
   -- A list has one strict form where its items have.
   pub list_one_form : IsOneForm Form → IsOneForm (ListForm number Form)
-  list_one_form one = universal_one true number (λ vs c. IsJoined (StrictWord Form) c vs)
+  list_one_form one = universal_one true number (λ vs c. IsConcatenation (StrictWord Form) c vs)
       (λ vs c d i j. joined_one (StrictWord Form) (one_strict Form one) vs c d i j)
 
   -- Strict parts have one list where the items' have one value.
   pub list_one_value : IsOneValue Form → IsOneValue (ListForm number Form)
-  list_one_value one = universal_value true number (λ vs c. IsJoined (StrictWord Form) c vs)
+  list_one_value one = universal_value true number (λ vs c. IsConcatenation (StrictWord Form) c vs)
       (λ vs ws c i j. joined_same (StrictWord Form) (strict_word_one Form one) c c vs ws refl i j)
 
   -- They fit an element.
   pub list_fits : number < 31 → FitsElement (ListForm number Form)
-  list_fits small = universal_fits true number (λ vs c. IsJoined (StrictWord Form) c vs) small
+  list_fits small = universal_fits true number (λ vs c. IsConcatenation (StrictWord Form) c vs) small
       (λ vs c j. joined_octets (StrictWord Form) (strict_word_octets Form) c vs j)
 
   -- They are those of lists of the type's values alone.
@@ -136,7 +136,7 @@ module _ {V : Type 0} (Form : V → Identifier → List ℕ → Type 0) (number 
 
   -- Joined strict encodings are joined elements that meet the items' check.
   joined_checked : (Check : Parts → Type 0) → FormChecks Form Check → (vs : List V) (c : List ℕ) →
-      IsJoined (StrictWord Form) c vs → (ps : List Parts) × IsJoined (CheckedElement Check) c ps
+      IsConcatenation (StrictWord Form) c vs → (ps : List Parts) × IsConcatenation (CheckedElement Check) c ps
   joined_checked Check checks [] c j = ([], j)
   joined_checked Check checks (v ∷ vs) c j =
       let t = joined_checked Check checks vs j.1 j.4 in
@@ -226,20 +226,20 @@ constructed_checks number = exact_check (IsListOr number) (is_list_or_is number)
 -- Items that were taken by an exact reader are joined words. Where a refusal ended the walk there are no such words, or
 -- it reports out of memory.
 module _ {T V E : Type 0} (reads : List ℕ → Result (List ℕ × T) (Refusal E) → Type 0) (from : Error → E → Type 0)
-    (G : List ℕ → V → Type 0) (value : T → V) (allocates : Bool) (IsCut : List ℕ → Type 0)
-    (one : IsOneFront G) (Keeps : List ℕ → Type 0)
+    (G : List ℕ → V → Type 0) (value : T → V) (allocates : Bool) (IsTruncated : List ℕ → Type 0)
+    (one : IsPrefixFree G) (Keeps : List ℕ → Type 0)
     (kept : (octets word rest : List ℕ) → Keeps octets → octets ≡ word ++ rest → Keeps rest)
     (exact : (octets : List ℕ) (answer : Result (List ℕ × T) (Refusal E)) → Keeps octets → reads octets answer →
-    Exactly IsCut G value (TellsMemory allocates from) octets answer) where
+    Exactly IsTruncated G value (TellsMemory allocates from) octets answer) where
   -- A walk of a reader that is exact is one over the words.
   walked : (answers : List (Result T E)) (content left : List ℕ) → Keeps content →
       Yields (TakesItem reads from) content answers left →
       IsWalk G value (TellsNoWord G (IsMemory allocates from)) content answers left
-  walked = lawful_walk reads from G value allocates IsCut one Keeps kept exact
+  walked = lawful_walk reads from G value allocates IsTruncated one Keeps kept exact
 
   -- Items that were taken to the end of the contents octets are their joined words.
   pub taken_joined : (items : List T) (content left : List ℕ) → Keeps content → left ≡ [] →
-      Yields (TakesItem reads from) content (map Ok items) left → IsJoined G content (map value items)
+      Yields (TakesItem reads from) content (map Ok items) left → IsConcatenation G content (map value items)
   taken_joined items content left k n y =
       items_joined G value (TellsNoWord G (IsMemory allocates from)) content items left
       (walked (map Ok items) content left k y) n
@@ -247,7 +247,7 @@ module _ {T V E : Type 0} (reads : List ℕ → Result (List ℕ × T) (Refusal 
   -- Where a refusal ended that, there are no joined words, or memory was wanting.
   pub taken_none : (items : List T) (e : E) (content left : List ℕ) → Keeps content →
       Yields (TakesItem reads from) content (map Ok items ++ Err e ∷ []) left →
-      IsMemory allocates from e ⊎ ((vs : List V) → IsJoined G content vs → ⊥)
+      IsMemory allocates from e ⊎ ((vs : List V) → IsConcatenation G content vs → ⊥)
   taken_none items e content left k y =
       let end = items_ended G value (TellsNoWord G (IsMemory allocates from)) content items e left
       (walked (map Ok items ++ Err e ∷ []) content left k y) in
@@ -261,23 +261,23 @@ module _ {T V E : Type 0} (reads : List ℕ → Result (List ℕ × T) (Refusal 
 module _ {T V W E : Type 0} {check : CheckGives} {Shape : Parts → Type 0} (checks : IsExactCheck check Shape)
     (holds : List T → W → Type 0) (values : W → List V)
     (reads : List ℕ → Result (List ℕ × T) (Refusal E) → Type 0) (from : Error → E → Type 0) (G : List ℕ → V → Type 0)
-    (value : T → V) (allocates : Bool) (IsCut : List ℕ → Type 0)
+    (value : T → V) (allocates : Bool) (IsTruncated : List ℕ → Type 0)
     (valued : (items : List T) (w : W) → holds items w → map value items ≡ values w)
-    (one : IsOneFront G)
+    (one : IsPrefixFree G)
     (exact : (octets : List ℕ) (answer : Result (List ℕ × T) (Refusal E)) → IsOctets octets → reads octets answer →
-    Exactly IsCut G value (TellsMemory allocates from) octets answer) where
+    Exactly IsTruncated G value (TellsMemory allocates from) octets answer) where
   -- Items that were taken from all of the contents octets are joined words.
   all_joined : (items : List T) (w : W) (content : List ℕ) → IsOctets content → holds items w →
-      Yields (TakesItem reads from) content (map Ok items) [] → IsJoined G content (values w)
-  all_joined items w content o h y = subst (IsJoined G content) (valued items w h)
-      (taken_joined reads from G value allocates IsCut one IsOctets octets_kept exact items content [] o refl y)
+      Yields (TakesItem reads from) content (map Ok items) [] → IsConcatenation G content (values w)
+  all_joined items w content o h y = subst (IsConcatenation G content) (valued items w h)
+      (taken_joined reads from G value allocates IsTruncated one IsOctets octets_kept exact items content [] o refl y)
 
   -- Where they were refused there are no joined words, or memory was wanting.
   none_taken : (e : E) (content : List ℕ) → IsOctets content → ItemsGive {T = T} reads from content (Err e) →
-      from errors.OutOfMemory e ⊎ ((vs : List V) → IsJoined G content vs → ⊥)
+      from errors.OutOfMemory e ⊎ ((vs : List V) → IsConcatenation G content vs → ⊥)
   none_taken e content o (inl m) = inl m
   none_taken e content o (inr s) =
-      elim (taken_none reads from G value allocates IsCut one IsOctets octets_kept exact s.0 e content s.1 o s.2) [
+      elim (taken_none reads from G value allocates IsTruncated one IsOctets octets_kept exact s.0 e content s.1 o s.2) [
         | inl m ↦ inl m.1
         | inr none ↦ inr none
       ]
@@ -297,7 +297,7 @@ module _ {T V W E : Type 0} {check : CheckGives} {Shape : Parts → Type 0} (che
   -- So is reading the element at the front by DER, and making a list of it.
   pub list_by_der_exact : (input : List ℕ) (answer : Result (List ℕ × W) (Refusal E)) →
       DerGives PassesAll (OfParts (ListTakes check holds reads from)) from input answer →
-      Exactly IsCutIdentifier (DerWord NoCheck (ShapedList Shape G)) values (TellsMemory true from) input answer
+      Exactly IsTruncatedIdentifier (DerWord NoCheck (ShapedList Shape G)) values (TellsMemory true from) input answer
   list_by_der_exact =
       unchecked_exact (OfParts (ListTakes check holds reads from)) from (ShapedList Shape G) values true list_takes
 
@@ -323,9 +323,9 @@ module _ (number : ℕ) (check : Parts → Result (Unit {0}) Error → Type 0) (
   -- Reading one element and checking it is exact.
   element_checked : (octets : List ℕ) (answer : Result (List ℕ × Any) (Refusal Error)) → Unit {0} →
       CheckedGives check octets answer →
-      Exactly IsCutIdentifier (CheckedElement Check) parts_of (TellsMemory false (λ x y. y ≡ x)) octets answer
+      Exactly IsTruncatedIdentifier (CheckedElement Check) parts_of (TellsMemory false (λ x y. y ≡ x)) octets answer
   element_checked octets answer k g =
-      element_exact IsDerElement DerElementFault IsCutIdentifier der_elements der_breach check IsTheElement
+      element_exact IsDerElement DerElementFault IsTruncatedIdentifier der_elements der_violation check IsTheElement
       (λ (x y : Error). y ≡ x) Check IsParts parts_of false (CheckedElement Check) check_exact any_body
       (λ o p c. (p, c.0, c.1, refl)) to_checked octets answer g
 
@@ -336,13 +336,13 @@ module _ (number : ℕ) (check : Parts → Result (Unit {0}) Error → Type 0) (
     number_is = t.0.0;
     constructed = t.0.1;
     elements = map parts_of t.1.0;
-    checked = taken_joined (CheckedGives check) (λ x y. y ≡ x) (CheckedElement Check) parts_of false IsCutIdentifier
+    checked = taken_joined (CheckedGives check) (λ x y. y ≡ x) (CheckedElement Check) parts_of false IsTruncatedIdentifier
         (checked_one Check) (λ o. Unit {0}) (λ o w r k e. tt) element_checked t.1.0 p.content [] tt refl t.1.1;
   }
   list_check_exact p (Err e) (inl r) =
       λ c. (constructed_checks number).exact p (Err e) r (c.number_is, c.constructed)
   list_check_exact p (Err e) (inr (h, s)) = λ c.
-      elim (taken_none (CheckedGives check) (λ x y. y ≡ x) (CheckedElement Check) parts_of false IsCutIdentifier
+      elim (taken_none (CheckedGives check) (λ x y. y ≡ x) (CheckedElement Check) parts_of false IsTruncatedIdentifier
       (checked_one Check) (λ o. Unit {0}) (λ o w r k e. tt) element_checked s.0 e p.content s.1 tt s.2) [
         | inl m ↦ cc (m.0)
         | inr none ↦ none c.elements c.checked
@@ -360,13 +360,13 @@ list_checks number check Check c = record {
         CheckedGives check octets answer → EndsItem (λ (x y : Error). y ≡ x) octets answer errors.OutOfMemory → ⊥
     element_not_memory octets (Ok x) g e = let a = e.1 in cc
     element_not_memory octets (Err r) g e =
-        refusal_not_memory r (element_no_memory IsDerElement DerElementFault der_breach
-        der_breach_no_memory check IsTheElement (λ (x y : Error). y ≡ x) c.asks_no_memory (λ any f h. absurd h) octets
+        refusal_not_memory r (element_no_memory IsDerElement DerElementFault der_violation
+        der_violation_no_memory check IsTheElement (λ (x y : Error). y ≡ x) c.asks_no_memory (λ any f h. absurd h) octets
         (Err r) g) e
       where
         refusal_not_memory : (r : Refusal Error) → HeldIn (IsOther (λ (x y : Error). y ≡ x)) r →
             FlattenedTo (λ x y. y ≡ x) (λ (x y : Error). y ≡ x) r errors.OutOfMemory → ⊥
-        refusal_not_memory (cut n) h f = cc
+        refusal_not_memory (truncated n) h f = cc
         refusal_not_memory (refused f) (inl o) k = o.1 (let a = o.2 in cc)
         refusal_not_memory (refused f) (inr o) k = o (sym k)
         refusal_not_memory (failed f) (inl o) k = o.1 (let a = o.2 in cc)
@@ -413,13 +413,13 @@ none_refuses refuses xs a e o = subst (λ x. HasNone (refuses x)) o.3 (a o.0 o.1
 module _ {S V : Type 0} (number : ℕ) (value : S → V) (Form : V → Identifier → List ℕ → Type 0) (w : Writing S)
     (law : WritesForm value Form w) where
   -- Items whose joined strict encodings are there have no refusal of their own.
-  joined_writable : (xs : List S) (c : List ℕ) → IsJoined (StrictWord Form) c (map value xs) → All (IsWritable w) xs
+  joined_writable : (xs : List S) (c : List ℕ) → IsConcatenation (StrictWord Form) c (map value xs) → All (IsWritable w) xs
   joined_writable [] c j = All-nil (IsWritable w)
   joined_writable (x ∷ xs) c j =
       All-cons (IsWritable w) x xs (strict_written value Form w law x j.0 j.2).0 (joined_writable xs j.1 j.4)
 
   -- What is written for them is these strict encodings.
-  joined_written : (xs : List S) (c : List ℕ) → IsJoined (StrictWord Form) c (map value xs) →
+  joined_written : (xs : List S) (c : List ℕ) → IsConcatenation (StrictWord Form) c (map value xs) →
       flat_map (whole_octets w) xs ≡ c
   joined_written [] c j = sym j
   joined_written (x ∷ xs) c j =
@@ -477,7 +477,7 @@ list_has_form number items value IsDer Form w strict l a fits =
       universal true number,
       (
         refl,
-        subst (λ c. IsJoined (StrictWord Form) c (map value xs)) (joined_flat (whole_octets w) xs)
+        subst (λ c. IsConcatenation (StrictWord Form) c (map value xs)) (joined_flat (whole_octets w) xs)
             (zip_joined (IsStrict Form) (map value xs) (map (whole_octets w) xs) z),
       ),
     ))

@@ -6,15 +6,15 @@ use Rattle.std.proofs.lemmas.Bool.{eqb-true, eq-eqb, false≢true}
 use Rattle.std.proofs.lemmas.Bool.Decides.{Decides-not, Decides-eqb}
 use Rattle.std.specs.Option.{option_map}
 use Rattle.x690.specs.Octets.{IsOctets}
-use Rattle.x690.specs.Identifiers.{Identifier, IsCutIdentifier}
+use Rattle.x690.specs.Identifiers.{Identifier, IsTruncatedIdentifier}
 use Rattle.x690.specs.Lengths.{LengthForm, definite}
 use Rattle.x690.specs.Rules.{Rule}
 use Rattle.x690.specs.Elements.{IsHeader, Parts, AllowsStrict}
-use Rattle.x690.specs.Faults.{Breach, Fault, HeaderFault, SpeaksOf}
+use Rattle.x690.specs.Faults.{Violation, Fault, HeaderFault, SpeaksOf}
 use Rattle.x690.specs.Laws.Headers.{header_unique, header_two}
 use Rattle.x690.specs.Laws.Faults.{header_or_fault, header_fault_counts, no_header}
 use Rattle.x690.specs.Laws.Faults.Complete.{header_or_has_fault}
-use Rattle.x690.specs.Joined.{IsOneFront}
+use Rattle.x690.specs.Joined.{IsPrefixFree}
 use Rattle.asn1_rs.specs.declared.asn1_types.any.Any.{Any}
 use Rattle.asn1_headers.specs.declared.error.Err.{Err as Refusal}
 use Rattle.asn1_headers.specs.declared.error.Error.{Error}
@@ -57,7 +57,7 @@ not_left_out rule octets header rest id form number h e same (inr other) =
     other.other (ap (λ (i : Identifier). i.number) u.1 ∙ same)
 
 -- a header that was read tells by its tag number whether the value is left out
-pub read_tells : (rule : Rule) (refuses : Breach → Error) (octets : List ℕ) (x : List ℕ × Header) (read number : ℕ) →
+pub read_tells : (rule : Rule) (refuses : Violation → Error) (octets : List ℕ) (x : List ℕ × Header) (read number : ℕ) →
     read ≡ x.1.tag.0 → HeaderGives rule (refusal_of refuses) octets (Ok x) →
     IsTrue (not (nat_eq read number)) ↔ IsLeftOut rule number octets
 read_tells rule refuses octets x read number e g =
@@ -76,7 +76,7 @@ read_tells rule refuses octets x read number e g =
     )
 
 -- where no header could be read, the value is left out at the end alone
-pub refusal_tells : (rule : Rule) (refuses : Breach → Error) (octets : List ℕ) (r : Refusal Error) (number : ℕ) →
+pub refusal_tells : (rule : Rule) (refuses : Violation → Error) (octets : List ℕ) (r : Refusal Error) (number : ℕ) →
     HeaderGives rule (refusal_of refuses) octets (Err r) →
     IsTrue (nat_eq (length octets) 0) ↔ IsLeftOut rule number octets
 refusal_tells rule refuses octets r number g = (λ told. inl (none octets (eqb-true (length octets) 0 told)), ended)
@@ -172,20 +172,20 @@ held_reads_back value memory v rest (Err r) b = b
 
 -- The strict encoding of what is held is read back, by a reader of optional values over one that is exact.
 pub held_is_read_back : {T V E : Type 0} (rule : Rule) → AllowsStrict rule →
-    (IsCut : List ℕ → Type 0) (Form : V → Identifier → List ℕ → Type 0) (G : List ℕ → V → Type 0) (value : T → V)
+    (IsTruncated : List ℕ → Type 0) (Form : V → Identifier → List ℕ → Type 0) (G : List ℕ → V → Type 0) (value : T → V)
     (memory : Refusal E → Type 0) (number : ℕ) → IsSet V
-    → ((v : V) (o : List ℕ) → IsStrict Form v o → G o v) → IsOneFront G → FormNumber Form number →
+    → ((v : V) (o : List ℕ) → IsStrict Form v o → G o v) → IsPrefixFree G → FormNumber Form number →
     (reads : List ℕ → Result (List ℕ × T) (Refusal E) → Type 0)
     → ((octets : List ℕ) (its : Result (List ℕ × T) (Refusal E)) → IsOctets octets → reads octets its →
-    Exactly IsCut G value memory octets its)
+    Exactly IsTruncated G value memory octets its)
     → ReadsHeldBack (OptionGives (IsLeftOut rule number) reads) Form value memory
-held_is_read_back rule allows IsCut Form G value memory number equality strict one numbered reads exact octets
+held_is_read_back rule allows IsTruncated Form G value memory number equality strict one numbered reads exact octets
     answer v w rest are (inl (out, e)) s is =
     absurd (∥∥₁_elim s ⊥_prop (λ t. strict_stays rule allows Form number numbered v octets w rest t is out))
-held_is_read_back rule allows IsCut Form G value memory number equality strict one numbered reads exact octets
+held_is_read_back rule allows IsTruncated Form G value memory number equality strict one numbered reads exact octets
     answer v w rest are (inr (stays, (its, gives, e))) s is =
     subst (ReadsBack (option_map value) memory (Some v) rest) (sym e) (held_reads_back value memory v rest its
-    (read_back IsCut Form G value memory equality strict one octets its (exact octets its are gives) v w rest s is))
+    (read_back IsTruncated Form G value memory equality strict one octets its (exact octets its are gives) v w rest s is))
 
 -- Refusals are those of the value, and final.
 
@@ -200,12 +200,12 @@ refused_is_held {T} {E} LeftOut reads octets r (inr (stays, (Err q, gives, e))) 
     (stays, subst (λ (z : Refusal E). reads octets (Err z)) same gives)
 
 -- A refusal of an optional value is that of the value, and final as that.
-pub held_is_refused : {T V E : Type 0} (LeftOut : List ℕ → Type 0) (IsCut : List ℕ → Type 0) (G : List ℕ → V → Type 0)
+pub held_is_refused : {T V E : Type 0} (LeftOut : List ℕ → Type 0) (IsTruncated : List ℕ → Type 0) (G : List ℕ → V → Type 0)
     (value : T → V) (memory : Refusal E → Type 0) (reads : List ℕ → Result (List ℕ × T) (Refusal E) → Type 0)
     → ((octets : List ℕ) (its : Result (List ℕ × T) (Refusal E)) → IsOctets octets → reads octets its →
-    Exactly IsCut G value memory octets its)
-    → RefusesAsHeld (OptionGives LeftOut reads) reads IsCut G memory
-held_is_refused LeftOut IsCut G value memory reads exact octets r are g =
+    Exactly IsTruncated G value memory octets its)
+    → RefusesAsHeld (OptionGives LeftOut reads) reads IsTruncated G memory
+held_is_refused LeftOut IsTruncated G value memory reads exact octets r are g =
     let its = (refused_is_held LeftOut reads octets r g).1 in
     (its, exact octets (Err r) are its)
 
@@ -235,14 +235,14 @@ header_stays rule number octets more header rest id form h e stays (inr other) =
 
 -- nor does one begin octets of which the fault of these speaks
 fault_stays : (rule : Rule) (number : ℕ) (octets more : List ℕ) (fault : Fault) → HeaderFault rule octets fault →
-    SpeaksOf (IsCutIdentifier octets) fault more → (IsLeftOut rule number octets → ⊥) →
+    SpeaksOf (IsTruncatedIdentifier octets) fault more → (IsLeftOut rule number octets → ⊥) →
     IsLeftOut rule number (octets ++ more) → ⊥
 fault_stays rule number octets more fault why speaks stays (inl none) = stays (inl (none_in_front octets more none))
 fault_stays rule number octets more fault why speaks stays (inr other) =
     no_header rule octets more other.header other.rest other.id other.form fault why speaks other.header_is other.is
 
 -- Where a reader refuses headers first, no value is left out before octets of which its refusal speaks.
-pub refused_stays_in : {T E : Type 0} (rule : Rule) (refuses : Breach → Error) (from : Error → E → Type 0) (number : ℕ)
+pub refused_stays_in : {T E : Type 0} (rule : Rule) (refuses : Violation → Error) (from : Error → E → Type 0) (number : ℕ)
     (reads : List ℕ → Result (List ℕ × T) (Refusal E) → Type 0) → TellsHeaderFirst rule refuses from reads →
     StaysIn (IsLeftOut rule number) (OptionGives (IsLeftOut rule number) reads)
 refused_stays_in {T} {E} rule refuses from number reads first octets more r are g speaks out =
@@ -250,7 +250,7 @@ refused_stays_in {T} {E} rule refuses from number reads first octets more r are 
     elim (header_or_has_fault rule octets are) [
       | inl h ↦ header_stays rule number octets more h.0 h.1 h.2 h.3 h.4 h.5 its.0 out
       | inr f ↦ fault_stays rule number octets more f.0 f.1
-          (speaks_fault {E = E} refuses from f.0 r (IsCutIdentifier octets) more
+          (speaks_fault {E = E} refuses from f.0 r (IsTruncatedIdentifier octets) more
           (header_fault_counts rule octets f.0 f.1)
           (first octets (refusal_of refuses f.0) r (f.0, f.1, refl) its.1) speaks) its.0 out
     ]
@@ -259,15 +259,15 @@ refused_stays_in {T} {E} rule refuses from number reads first octets more r are 
 
 -- A refusal of an optional element is that of the element, and final as that.
 pub element_is_refused : (ElementOf : List ℕ → Parts → Type 0) (FaultOf : List ℕ → Fault → Type 0)
-    (IsCut : List ℕ → Type 0) → AreElements ElementOf FaultOf IsCut → (refuses : Breach → Error)
+    (IsTruncated : List ℕ → Type 0) → AreElements ElementOf FaultOf IsTruncated → (refuses : Violation → Error)
     (LeftOut : List ℕ → Type 0) (reads : List ℕ → Result (List ℕ × Any) (Refusal Error) → Type 0) →
     ((octets : List ℕ) (answer : Result (List ℕ × Any) (Refusal Error)) → reads octets answer →
     AnyGives ElementOf FaultOf (refusal_of refuses) octets answer) →
-    RefusesAsHeld (OptionGives LeftOut reads) reads IsCut ElementOf (λ r. ⊥)
-element_is_refused ElementOf FaultOf IsCut elements refuses LeftOut reads gives octets r are g =
+    RefusesAsHeld (OptionGives LeftOut reads) reads IsTruncated ElementOf (λ r. ⊥)
+element_is_refused ElementOf FaultOf IsTruncated elements refuses LeftOut reads gives octets r are g =
     let its = (refused_is_held LeftOut reads octets r g).1 in (
       its,
-      inr (λ more speaks word rest p e a. refusal_lasts ElementOf FaultOf IsCut elements refuses octets r
+      inr (λ more speaks word rest p e a. refusal_lasts ElementOf FaultOf IsTruncated elements refuses octets r
           (gives octets (Err r) its) more word rest p speaks a e),
     )
 

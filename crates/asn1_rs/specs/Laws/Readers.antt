@@ -3,27 +3,27 @@ use Rattle.std.proofs.Common.{arith, ◌≡◌, ◌≢◌, ◌∙◌, ap, sym, s
 use Rattle.std.proofs.Common.{length, append_assoc, append-nil}
 use Rattle.std.specs.Prelude.{Result, Ok, Err, IfErr}
 use Rattle.x690.specs.Octets.{IsOctets}
-use Rattle.x690.specs.Identifiers.{IsCutIdentifier}
+use Rattle.x690.specs.Identifiers.{IsTruncatedIdentifier}
 use Rattle.x690.specs.Rules.{der_rule}
 use Rattle.x690.specs.Elements.{Parts, IsDerElement, ArePossible}
-use Rattle.x690.specs.Faults.{Breach, Fault, missing, tag_fault, length_fault, rule_fault, depth_fault, DerElementFault}
-use Rattle.x690.specs.Faults.{SpeaksOf, IsLackingOrCut, identifier_breach, length_breach, form_breach}
+use Rattle.x690.specs.Faults.{Violation, Fault, missing, tag_fault, length_fault, rule_fault, depth_fault, DerElementFault}
+use Rattle.x690.specs.Faults.{SpeaksOf, IsLackingOrTruncated, identifier_violation, length_violation, form_violation}
 use Rattle.x690.specs.Nested.{IsElement, ElementFault}
 use Rattle.x690.specs.Laws.Elements.{definite_possible}
 use Rattle.x690.specs.Laws.Faults.{CountsSome, no_der_element, der_fault_counts, one_der_fault}
 use Rattle.x690.specs.Laws.Nested.{nested_possible}
 use Rattle.x690.specs.Laws.Nested.Faults.{no_element, element_fault_counts, one_element_fault}
-use Rattle.x690.specs.Laws.Faults.Beginnings.{cut_header_fault, within_fault, der_beginning, element_beginning}
+use Rattle.x690.specs.Laws.Faults.Beginnings.{truncated_header_fault, within_fault, der_beginning, element_beginning}
 use Rattle.x690.specs.Laws.Words.{definite_words, nested_words}
-use Rattle.x690.specs.Joined.{NoFront, IsOneFront}
+use Rattle.x690.specs.Joined.{NoPrefix, IsPrefixFree}
 use Rattle.asn1_rs.specs.declared.asn1_types.any.Any.{Any}
 use Rattle.asn1_headers.specs.declared.error.Err.{Err as Refusal}
-use Rattle.asn1_headers.specs.declared.error.Err.TheVariants.{Error as refused, Incomplete as cut, Failure as failed}
+use Rattle.asn1_headers.specs.declared.error.Err.TheVariants.{Error as refused, Incomplete as truncated, Failure as failed}
 use Rattle.asn1_headers.specs.declared.error.Needed.TheVariants.{Size, Unknown}
 use Rattle.asn1_headers.specs.declared.error.Error.{Error}
 use Rattle.asn1_headers.specs.declared.error.Error.TheVariants.{OutOfMemory}
 use Rattle.asn1_headers.specs.Error.{Converted, HeldIn}
-use Rattle.asn1_headers.specs.Header.Reading.{refusal_of, der_breach, ber_breach}
+use Rattle.asn1_headers.specs.Header.Reading.{refusal_of, der_violation, ber_violation}
 use Rattle.asn1_rs.specs.Any.{parts_of}
 use Rattle.asn1_headers.specs.Answers.{Front, IsFinal, Speaks, Exactly, TellsMemory, IsOther}
 use Rattle.asn1_rs.specs.Grammar.{ElementWord, DerWord, TakesBody, Checks, NoCheck}
@@ -34,19 +34,19 @@ use Rattle.asn1_headers.specs.Ber.{max_depth, EndsWithin}
 
 -- What the laws ask of elements: one alone begins an input, and a fault is the only one, and final.
 pub record AreElements (ElementOf : List ℕ → Parts → Type 0) (FaultOf : List ℕ → Fault → Type 0)
-    (IsCut : List ℕ → Type 0) : Type 0 where
-  pub one : IsOneFront ElementOf
+    (IsTruncated : List ℕ → Type 0) : Type 0 where
+  pub one : IsPrefixFree ElementOf
   pub final : (input more o rest : List ℕ) (p : Parts) (fault : Fault) → FaultOf input fault →
-      SpeaksOf (IsCut input) fault more → ElementOf o p → input ++ more ≡ o ++ rest → ⊥
+      SpeaksOf (IsTruncated input) fault more → ElementOf o p → input ++ more ≡ o ++ rest → ⊥
   pub counts : (input : List ℕ) (fault : Fault) → FaultOf input fault → CountsSome fault
   pub alone : (input : List ℕ) (f g : Fault) → FaultOf input f → FaultOf input g → f ≡ g
   pub possible : (o : List ℕ) (p : Parts) → ElementOf o p → ArePossible p
   pub beginning : (input more o rest : List ℕ) (p : Parts) (fault : Fault) → FaultOf input fault → ElementOf o p →
-      input ++ more ≡ o ++ rest → IsLackingOrCut (IsCut input) fault more
-  pub within : (input : List ℕ) → IsCut input → FaultOf input tag_fault
+      input ++ more ≡ o ++ rest → IsLackingOrTruncated (IsTruncated input) fault more
+  pub within : (input : List ℕ) → IsTruncated input → FaultOf input tag_fault
 
 -- Elements by DER are such.
-pub der_elements : AreElements IsDerElement DerElementFault IsCutIdentifier
+pub der_elements : AreElements IsDerElement DerElementFault IsTruncatedIdentifier
 der_elements = record {
   one = definite_words der_rule;
   final = λ input more o rest p fault f s a e. no_der_element input more o rest p fault f s a e;
@@ -54,7 +54,7 @@ der_elements = record {
   alone = one_der_fault;
   possible = definite_possible der_rule;
   beginning = λ input more o rest p fault f a e. der_beginning input more o rest p fault f a e;
-  within = λ input c. inl (cut_header_fault der_rule input c);
+  within = λ input c. inl (truncated_header_fault der_rule input c);
 }
 
 -- Elements by BER are such.
@@ -83,33 +83,33 @@ all_pass p h = cc
 -- What refusals say of more octets.
 
 -- A refusal that tells of missing octets speaks of fewer more than these.
-speaks_missing : (E : Type 0) (is_cut : Type 0) (n : ℕ) (more : List ℕ) → 1 ≤ n →
-    Speaks {E = E} is_cut (cut (Size n)) more → length more < n
-speaks_missing E is_cut n more some (inl e) = let l = ap length e in omega (arith, l)
-speaks_missing E is_cut n more some (inr l) = l
+speaks_missing : (E : Type 0) (is_truncated : Type 0) (n : ℕ) (more : List ℕ) → 1 ≤ n →
+    Speaks {E = E} is_truncated (truncated (Size n)) more → length more < n
+speaks_missing E is_truncated n more some (inl e) = let l = ap length e in omega (arith, l)
+speaks_missing E is_truncated n more some (inr l) = l
 
 -- what a refusal that tells of a fault speaks of, the fault speaks of
-pub speaks_fault : {E : Type 0} (refuses : Breach → Error) (from : Error → E → Type 0) (fault : Fault) (r : Refusal E)
-    (is_cut : Type 0) (more : List ℕ) → CountsSome fault → Converted from (refusal_of refuses fault) r →
-    Speaks is_cut r more → SpeaksOf is_cut fault more
-speaks_fault {E} at from (missing n) r is_cut more some c s =
-    speaks_missing E is_cut n more some (subst (λ (q : Refusal E). Speaks is_cut q more) c s)
-speaks_fault {E} at from tag_fault r is_cut more some c s = subst (λ (q : Refusal E). Speaks is_cut q more) c.2 s
-speaks_fault at from length_fault r is_cut more some c s = tt
-speaks_fault at from (rule_fault breach) r is_cut more some c s = tt
-speaks_fault at from depth_fault r is_cut more some c s = tt
+pub speaks_fault : {E : Type 0} (refuses : Violation → Error) (from : Error → E → Type 0) (fault : Fault) (r : Refusal E)
+    (is_truncated : Type 0) (more : List ℕ) → CountsSome fault → Converted from (refusal_of refuses fault) r →
+    Speaks is_truncated r more → SpeaksOf is_truncated fault more
+speaks_fault {E} at from (missing n) r is_truncated more some c s =
+    speaks_missing E is_truncated n more some (subst (λ (q : Refusal E). Speaks is_truncated q more) c s)
+speaks_fault {E} at from tag_fault r is_truncated more some c s = subst (λ (q : Refusal E). Speaks is_truncated q more) c.2 s
+speaks_fault at from length_fault r is_truncated more some c s = tt
+speaks_fault at from (rule_fault violation) r is_truncated more some c s = tt
+speaks_fault at from depth_fault r is_truncated more some c s = tt
 
 -- A refusal speaks of the octets as they are.
-pub speaks_now : {E : Type 0} (is_cut : Type 0) (r : Refusal E) → Speaks is_cut r []
-speaks_now is_cut (cut (Size n)) = inl refl
-speaks_now is_cut (cut Unknown) = refl
-speaks_now is_cut (refused x) = inl refl
-speaks_now is_cut (failed x) = inl refl
+pub speaks_now : {E : Type 0} (is_truncated : Type 0) (r : Refusal E) → Speaks is_truncated r []
+speaks_now is_truncated (truncated (Size n)) = inl refl
+speaks_now is_truncated (truncated Unknown) = refl
+speaks_now is_truncated (refused x) = inl refl
+speaks_now is_truncated (failed x) = inl refl
 
 -- What a final refusal rules out begins the octets as they are neither.
-pub none_now : {V E : Type 0} (is_cut : Type 0) (r : Refusal E) (G : List ℕ → V → Type 0) (input : List ℕ) →
-    IsFinal is_cut r G input → NoFront G input
-none_now is_cut r G input f w rest v e g = f [] (speaks_now is_cut r) w rest v (append-nil input ∙ e) g
+pub none_now : {V E : Type 0} (is_truncated : Type 0) (r : Refusal E) (G : List ℕ → V → Type 0) (input : List ℕ) →
+    IsFinal is_truncated r G input → NoPrefix G input
+none_now is_truncated r G input f w rest v e g = f [] (speaks_now is_truncated r) w rest v (append-nil input ∙ e) g
 
 -- A word at the front stays one with more octets behind.
 pub front_more : {V : Type 0} (G : List ℕ → V → Type 0) (input : List ℕ) (v : V) (rest more : List ℕ) →
@@ -120,7 +120,7 @@ front_more G input v rest more f =
 -- Readers are exact.
 
 module _ {T V E : Type 0} (ElementOf : List ℕ → Parts → Type 0) (FaultOf : List ℕ → Fault → Type 0)
-    (IsCut : List ℕ → Type 0) (elements : AreElements ElementOf FaultOf IsCut) (refuses : Breach → Error)
+    (IsTruncated : List ℕ → Type 0) (elements : AreElements ElementOf FaultOf IsTruncated) (refuses : Violation → Error)
     (check : Parts → Result (Unit {0}) Error → Type 0) (convert : Any → Result T E → Type 0) (from : Error → E → Type 0)
     (Check : Parts → Type 0) (Body : Parts → V → Type 0) (value : T → V) (allocates : Bool) (G : List ℕ → V → Type 0)
     (check_exact : (p : Parts) (answer : Result (Unit {0}) Error) → check p answer → Checks Check p answer)
@@ -140,7 +140,7 @@ module _ {T V E : Type 0} (ElementOf : List ℕ → Parts → Type 0) (FaultOf :
   -- A reader that reads one element, checks it and converts it is exact.
   pub element_exact : (input : List ℕ) (answer : Result (List ℕ × T) (Refusal E)) →
       ElementGives ElementOf FaultOf (refusal_of refuses) check convert from input answer →
-      Exactly IsCut G value (TellsMemory allocates from) input answer
+      Exactly IsTruncated G value (TellsMemory allocates from) input answer
   element_exact input (Ok x) g = record {
     word = g.1.front.word;
     fits = join g.1.front.word (value x.1) (
@@ -154,7 +154,7 @@ module _ {T V E : Type 0} (ElementOf : List ℕ → Parts → Type 0) (FaultOf :
   element_exact input (Err r) (inl (fault, f, c)) = inr (λ more s w rest v e d.
       let a : ElementWord ElementOf Check Body w v = split w v d in
       elements.final input more w rest a.0 fault f
-      (speaks_fault refuses from fault r (IsCut input) more (elements.counts input fault f) c s) a.1 e)
+      (speaks_fault refuses from fault r (IsTruncated input) more (elements.counts input fault f) c s) a.1 e)
   element_exact input (Err r) (inr (any, rest, begins, inl (e, c, f))) =
       inr (λ more s w t v h d. check_exact (parts_of any) (Err e) c (word_parts (input ++ more) (rest ++ more) w t
       (parts_of any) v (front_more ElementOf input (parts_of any) rest more begins.front) h d).0)
@@ -166,19 +166,19 @@ module _ {T V E : Type 0} (ElementOf : List ℕ → Parts → Type 0) (FaultOf :
       ]
 
 -- no fault reports out of memory
-pub fault_no_memory : {E : Type 0} (from : Error → E → Type 0) (refuses : Breach → Error) →
-    ((breach : Breach) → refuses breach ≢ OutOfMemory) → (fault : Fault) (r : Refusal E) →
+pub fault_no_memory : {E : Type 0} (from : Error → E → Type 0) (refuses : Violation → Error) →
+    ((violation : Violation) → refuses violation ≢ OutOfMemory) → (fault : Fault) (r : Refusal E) →
     Converted from (refusal_of refuses fault) r → HeldIn (IsOther from) r
 fault_no_memory from at other (missing n) r c = subst (HeldIn (IsOther from)) (sym c) tt
 fault_no_memory from at other tag_fault r c = subst (HeldIn (IsOther from)) (sym c.2) (inl (_, λ q. cc, c.1))
 fault_no_memory from at other length_fault r c = subst (HeldIn (IsOther from)) (sym c.2) (inl (_, λ q. cc, c.1))
-fault_no_memory from at other (rule_fault breach) r c =
-    subst (HeldIn (IsOther from)) (sym c.2) (inl (_, other breach, c.1))
+fault_no_memory from at other (rule_fault violation) r c =
+    subst (HeldIn (IsOther from)) (sym c.2) (inl (_, other violation, c.1))
 fault_no_memory from at other depth_fault r c = subst (HeldIn (IsOther from)) (sym c.2) (inl (_, λ q. cc, c.1))
 
 -- where check and conversion do not allocate, no refusal reports out of memory
 pub element_no_memory : {T E : Type 0} (ElementOf : List ℕ → Parts → Type 0) (FaultOf : List ℕ → Fault → Type 0)
-    (refuses : Breach → Error) → ((breach : Breach) → refuses breach ≢ OutOfMemory) →
+    (refuses : Violation → Error) → ((violation : Violation) → refuses violation ≢ OutOfMemory) →
     (check : Parts → Result (Unit {0}) Error → Type 0) (convert : Any → Result T E → Type 0)
     (from : Error → E → Type 0) →
     ((p : Parts) → check p (Err OutOfMemory) → ⊥) → ((any : Any) (e : E) → convert any (Err e) → IsOther from e) →
@@ -197,14 +197,14 @@ element_no_memory ElementOf FaultOf at other check convert from checked converte
     subst (HeldIn (IsOther from)) (sym is) (converted any e v)
 
 -- What is not allowed by DER is not refused as out of memory.
-pub der_breach_no_memory : (breach : Breach) → der_breach breach ≢ OutOfMemory
-der_breach_no_memory identifier_breach q = cc
-der_breach_no_memory length_breach q = cc
-der_breach_no_memory form_breach q = cc
+pub der_violation_no_memory : (violation : Violation) → der_violation violation ≢ OutOfMemory
+der_violation_no_memory identifier_violation q = cc
+der_violation_no_memory length_violation q = cc
+der_violation_no_memory form_violation q = cc
 
 -- What is not allowed by BER is not refused as out of memory.
-pub ber_breach_no_memory : (breach : Breach) → ber_breach breach ≢ OutOfMemory
-ber_breach_no_memory breach q = cc
+pub ber_violation_no_memory : (violation : Violation) → ber_violation violation ≢ OutOfMemory
+ber_violation_no_memory violation q = cc
 
 -- Readers that check nothing, and refusals that stay.
 
@@ -214,22 +214,22 @@ pub unchecked_exact : {T V E : Type 0} (convert : Any → Result T E → Type 0)
     ((any : Any) (answer : Result T E) → IsOctets any.content.now → convert any answer →
     TakesBody Body value allocates from (parts_of any) answer) →
     (input : List ℕ) (answer : Result (List ℕ × T) (Refusal E)) → DerGives PassesAll convert from input answer →
-    Exactly IsCutIdentifier (DerWord NoCheck Body) value (TellsMemory allocates from) input answer
+    Exactly IsTruncatedIdentifier (DerWord NoCheck Body) value (TellsMemory allocates from) input answer
 unchecked_exact convert from Body value allocates exact =
-    element_exact IsDerElement DerElementFault IsCutIdentifier der_elements der_breach PassesAll convert from NoCheck
+    element_exact IsDerElement DerElementFault IsTruncatedIdentifier der_elements der_violation PassesAll convert from NoCheck
     Body value allocates (DerWord NoCheck Body) passes_all exact (λ o v w. w) (λ o v w. w)
 
 -- a refusal that is not converted is its own
-pub converts_itself : (refuses : Breach → Error) (fault : Fault) →
+pub converts_itself : (refuses : Violation → Error) (fault : Fault) →
     Converted {E = Error} {F = Error} (λ x y. y ≡ x) (refusal_of refuses fault) (refusal_of refuses fault)
 converts_itself at (missing n) = refl
 converts_itself at tag_fault = (_, refl, refl)
 converts_itself at length_fault = (_, refl, refl)
-converts_itself at (rule_fault breach) = (_, refl, refl)
+converts_itself at (rule_fault violation) = (_, refl, refl)
 converts_itself at depth_fault = (_, refl, refl)
 
 -- What a refusal that tells of a fault speaks of, the fault speaks of, where the refusal is as it was.
-pub speaks_itself : (refuses : Breach → Error) (fault : Fault) (r : Refusal Error) (is_cut : Type 0) (more : List ℕ) →
-    CountsSome fault → r ≡ refusal_of refuses fault → Speaks is_cut r more → SpeaksOf is_cut fault more
-speaks_itself at fault r is_cut more some e s = speaks_fault {E = Error} at (λ x y. y ≡ x) fault (refusal_of at fault)
-    is_cut more some (converts_itself at fault) (subst (λ (q : Refusal Error). Speaks is_cut q more) e s)
+pub speaks_itself : (refuses : Violation → Error) (fault : Fault) (r : Refusal Error) (is_truncated : Type 0) (more : List ℕ) →
+    CountsSome fault → r ≡ refusal_of refuses fault → Speaks is_truncated r more → SpeaksOf is_truncated fault more
+speaks_itself at fault r is_truncated more some e s = speaks_fault {E = Error} at (λ x y. y ≡ x) fault (refusal_of at fault)
+    is_truncated more some (converts_itself at fault) (subst (λ (q : Refusal Error). Speaks is_truncated q more) e s)

@@ -15,10 +15,10 @@ use Rattle.std.proofs.lemmas.List.Elements.{All-nil, All-cons}
 use Rattle.std.proofs.lemmas.List.Sorted.{IsPermutation-refl, IsPermutation-sym, All-permutation}
 use Rattle.x690.specs.Strict.{header_octets}
 use Rattle.x690.specs.Octets.{IsOctets}
-use Rattle.x690.specs.Identifiers.{Identifier, IsCutIdentifier}
+use Rattle.x690.specs.Identifiers.{Identifier, IsTruncatedIdentifier}
 use Rattle.x690.specs.Elements.{Parts, IsDerElement}
 use Rattle.x690.specs.Collections.{multiset, ValueSet, value_set, AllDiffer, Joins, AnyList}
-use Rattle.x690.specs.Joined.{IsOneFront, IsJoined}
+use Rattle.x690.specs.Joined.{IsPrefixFree, IsConcatenation}
 use Rattle.x690.specs.Laws.Ascending.Arranged.{only_arranged, arranged_same, arranged_length}
 use Rattle.x690.specs.Laws.Collections.{permutation_from_multiset, same_multiset, have_same_from_value_set}
 use Rattle.x690.specs.Laws.Collections.{same_value_set, HaveSame-permutation, permutation_from_value_set, joins_joined}
@@ -137,7 +137,7 @@ module _ {V M : Type 0} (of : List V → M) (Each : List V → Type 0) (Form : V
 
   module _ (G : List ℕ → V → Type 0) (word : (v : V) (o : List ℕ) → IsStrict Form v o → G o v) where
     -- Strict contents octets are joined words of the items.
-    set_joined : (m : M) (c : List ℕ) (f : Joins of Each (IsStrict Form) m c) → IsJoined G c f.items
+    set_joined : (m : M) (c : List ℕ) (f : Joins of Each (IsStrict Form) m c) → IsConcatenation G c f.items
     set_joined m c f =
         joined_map (StrictWord Form) G (λ o v s. word v o s) c f.items (joins_joined of Each (IsStrict Form) m c f)
 
@@ -696,11 +696,11 @@ module _ {S V : Type 0} (test : S → S → Bool) (value : S → V)
 module _ {T V W M E : Type 0} {check : CheckGives} {Shape : Parts → Type 0} (checks : IsExactCheck check Shape)
     (holds : List T → W → Type 0) (of : List V → M) (worth : W → M)
     (reads : List ℕ → Result (List ℕ × T) (Refusal E) → Type 0) (from : Error → E → Type 0) (G : List ℕ → V → Type 0)
-    (value : T → V) (allocates : Bool) (IsCut : List ℕ → Type 0)
+    (value : T → V) (allocates : Bool) (IsTruncated : List ℕ → Type 0)
     (told : (items : List T) (w : W) → holds items w → of (map value items) ≡ worth w)
-    (one : IsOneFront G)
+    (one : IsPrefixFree G)
     (exact : (octets : List ℕ) (answer : Result (List ℕ × T) (Refusal E)) → IsOctets octets → reads octets answer →
-    Exactly IsCut G value (TellsMemory allocates from) octets answer) where
+    Exactly IsTruncated G value (TellsMemory allocates from) octets answer) where
   -- Making a set of an element is exact.
   pub set_takes : (any : Any) (answer : Result W E) → IsOctets any.content.now →
       OfParts (ListTakes check holds reads from) any answer →
@@ -708,11 +708,11 @@ module _ {T V W M E : Type 0} {check : CheckGives} {Shape : Parts → Type 0} (c
   set_takes any (Ok w) o t = (
     map value t.1.0,
     told t.1.0 w t.1.1,
-    list_takes checks (λ (xs : List T) (ys : List T). ys ≡ xs) (map value) reads from G value allocates IsCut
+    list_takes checks (λ (xs : List T) (ys : List T). ys ≡ xs) (map value) reads from G value allocates IsTruncated
         (λ xs ys e. ap (map value) (sym e)) one exact any (Ok t.1.0) o (t.0, (t.1.0, refl, t.1.2)),
   )
   set_takes any (Err e) o t = elim (list_takes {W = List T} checks (λ (xs : List T) (ys : List T). ys ≡ xs)
-      (map value) reads from G value allocates IsCut (λ xs ys e. ap (map value) (sym e)) one exact any (Err e) o t) [
+      (map value) reads from G value allocates IsTruncated (λ xs ys e. ap (map value) (sym e)) one exact any (Err e) o t) [
         | inl m ↦ inl m
         | inr none ↦ inr (λ m b. none b.0 b.2)
       ]
@@ -720,7 +720,7 @@ module _ {T V W M E : Type 0} {check : CheckGives} {Shape : Parts → Type 0} (c
   -- So is reading the element at the front by DER, and making a set of it.
   pub set_by_der_exact : (input : List ℕ) (answer : Result (List ℕ × W) (Refusal E)) →
       DerGives PassesAll (OfParts (ListTakes check holds reads from)) from input answer →
-      Exactly IsCutIdentifier (DerWord NoCheck (Seen of (ShapedList Shape G))) worth (TellsMemory true from) input
+      Exactly IsTruncatedIdentifier (DerWord NoCheck (Seen of (ShapedList Shape G))) worth (TellsMemory true from) input
       answer
   set_by_der_exact = unchecked_exact (OfParts (ListTakes check holds reads from)) from (Seen of (ShapedList Shape G))
       worth true set_takes

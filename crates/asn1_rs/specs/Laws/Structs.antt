@@ -8,4 +8,4 @@ pub mod Structs
 pub mod Readers
 pub mod Defaults
 pub mod Members
-pub mod Untold
+pub mod AnyTag

@@ -10,7 +10,7 @@ use Rattle.std.proofs.lemmas.List.{append_cancel_left}
 use Rattle.x690.specs.Octets.{IsOctets}
 use Rattle.x690.specs.Identifiers.{Identifier}
 use Rattle.x690.specs.Elements.{Parts}
-use Rattle.x690.specs.Joined.{IsOneFront}
+use Rattle.x690.specs.Joined.{IsPrefixFree}
 use Rattle.asn1_headers.specs.declared.class.Class.{Class}
 use Rattle.asn1_headers.specs.declared.class.Class.TheVariants.{Universal, Application, ContextSpecific, Private}
 use Rattle.asn1_headers.specs.declared.error.DerConstraint.TheVariants.{TrailingOctets}
@@ -113,15 +113,15 @@ module _ {V : Type 0} (G : List ℕ → V → Type 0) where
       subst (λ (w : List ℕ). G w v) (sym e) f.fits
 
   -- Where one word alone begins an input, one that begins another leaves nothing of it.
-  pub none_left : IsOneFront G → (o rest : List ℕ) (v w : V) → Front G o v rest → G o w → rest ≡ []
+  pub none_left : IsPrefixFree G → (o rest : List ℕ) (v w : V) → Front G o v rest → G o w → rest ≡ []
   none_left one o rest v w f h =
       let same : (o ≡ f.word) × (w ≡ v) = one.one o f.word [] rest w v h f.fits (append-nil o ∙ f.is) in
       append_cancel_left f.word rest [] (sym f.is ∙ same.0 ∙ sym (append-nil f.word))
 
 module _ {T V E : Type 0} (reads : List ℕ → Result (List ℕ × T) (Refusal E) → Type 0) (from : Error → E → Type 0)
-    (G : List ℕ → V → Type 0) (value : T → V) (allocates : Bool) (IsCut : List ℕ → Type 0)
+    (G : List ℕ → V → Type 0) (value : T → V) (allocates : Bool) (IsTruncated : List ℕ → Type 0)
     (exact : (octets : List ℕ) (answer : Result (List ℕ × T) (Refusal E)) → IsOctets octets → reads octets answer →
-    Exactly IsCut G value (TellsMemory allocates from) octets answer) where
+    Exactly IsTruncated G value (TellsMemory allocates from) octets answer) where
   -- What is read so is a word, with this value.
   pub whole_is : (octets : List ℕ) (x : T) → IsOctets octets → ReadsWhole reads from octets (Ok x) → G octets (value x)
   whole_is octets x o (Ok y, g, (none, is)) = subst (λ (t : T). G octets (value t)) (sym is)
@@ -129,14 +129,14 @@ module _ {T V E : Type 0} (reads : List ℕ → Result (List ℕ × T) (Refusal 
   whole_is octets x o (Err r, g, none) = absurd none
 
   -- What is refused so is no word, except when out of memory.
-  pub whole_refused : IsOneFront G → (octets : List ℕ) (r : Refusal E) → IsOctets octets →
+  pub whole_refused : IsPrefixFree G → (octets : List ℕ) (r : Refusal E) → IsOctets octets →
       ReadsWhole reads from octets (Err r) → TellsMemory allocates from r ⊎ ((v : V) → G octets v → ⊥)
   whole_refused one octets r o (Ok y, g, (some, told)) =
       inr (λ v w. some (none_left G one octets y.0 (value y.1) v (exact octets (Ok y) o g) w))
   whole_refused one octets r o (Err own, g, is) =
       elim (exact octets (Err own) o g) [
         | inl m ↦ inl (subst (TellsMemory allocates from) (sym is) m)
-        | inr n ↦ inr (λ v w. none_now (IsCut octets) own G octets n octets [] v (sym (append-nil octets)) w)
+        | inr n ↦ inr (λ v w. none_now (IsTruncated octets) own G octets n octets [] v (sym (append-nil octets)) w)
       ]
 
 -- Where the reader does not report out of memory, neither does what is read so.

@@ -8,7 +8,7 @@ use Rattle.x690.specs.Elements.{Parts, IsDefiniteElement, IsStrictElement, Allow
 use Rattle.x690.specs.Laws.Nested.{definite_is_nested}
 use Rattle.x690.specs.Laws.StrictElements.{der_allows_strict, ber_allows_strict, strict_is_definite, strict_element_one}
 use Rattle.x690.specs.Laws.StrictElements.{strict_element_unique}
-use Rattle.x690.specs.Joined.{IsOneFront}
+use Rattle.x690.specs.Joined.{IsPrefixFree}
 use Rattle.asn1_headers.specs.declared.error.Err.{Err as Refusal}
 use Rattle.asn1_headers.specs.Answers.{Exactly, ReadsBack}
 use Rattle.asn1_rs.specs.Grammar.Form.{IsOneForm, IsOneValue, IsStrict}
@@ -25,7 +25,7 @@ use mathlib.Core.Logic.{∥∥₁_elim}
 
 -- words of one body, over elements of which one alone begins an input
 pub word_one : {V : Type 0} (ElementOf : List ℕ → Parts → Type 0) (Check : Parts → Type 0) (Body : Parts → V → Type 0) →
-    IsOneFront ElementOf → IsOneBody Body → IsOneFront (ElementWord ElementOf Check Body)
+    IsPrefixFree ElementOf → IsOneBody Body → IsPrefixFree (ElementWord ElementOf Check Body)
 word_one ElementOf Check Body elements one = record {
   one = λ x y r s v w a b e.
       let same : (x ≡ y) × (a.0 ≡ b.0) = elements.one x y r s a.0 b.0 a.1 b.1 e in
@@ -76,7 +76,7 @@ module _ {S : Type 0} (G : ItemGrammar S) (l : IsLawfulItem G) where
   ber_values o v w = l.body_values w.0 v (ber_elements.possible o w.0 w.1) w.3
 
   -- One word by BER alone begins an input.
-  pub ber_one : IsOneFront (ber_words G)
+  pub ber_one : IsPrefixFree (ber_words G)
   ber_one = word_one (IsElement max_depth) NoCheck G.Body ber_elements.one l.body_one
 
   -- A strict encoding is a word by BER.
@@ -103,28 +103,28 @@ strict_apart Form one v w o p r s x y e =
     (u.0, one v w y.id y.content form y.form, u.3)
 
 -- the strict encoding is read back before any rest, where it is in hand
-read_back_in_hand : {T V E : Type 0} (IsCut : List ℕ → Type 0) (Form : V → Identifier → List ℕ → Type 0)
+assert_read_back_valid : {T V E : Type 0} (IsTruncated : List ℕ → Type 0) (Form : V → Identifier → List ℕ → Type 0)
     (G : List ℕ → V → Type 0) (value : T → V) (memory : Refusal E → Type 0) →
-    ((v : V) (o : List ℕ) → IsStrict Form v o → G o v) → IsOneFront G →
-    (input : List ℕ) (answer : Result (List ℕ × T) (Refusal E)) → Exactly IsCut G value memory input answer →
+    ((v : V) (o : List ℕ) → IsStrict Form v o → G o v) → IsPrefixFree G →
+    (input : List ℕ) (answer : Result (List ℕ × T) (Refusal E)) → Exactly IsTruncated G value memory input answer →
     (v : V) (w rest : List ℕ) → IsStrict Form v w → input ≡ w ++ rest → ReadsBack value memory v rest answer
-read_back_in_hand IsCut Form G value memory word one input (Ok x) f v w rest s e =
+assert_read_back_valid IsTruncated Form G value memory word one input (Ok x) f v w rest s e =
     let same : (w ≡ f.word) × (v ≡ value x.1) =
     one.one w f.word rest x.0 v (value x.1) (word v w s) f.fits (sym e ∙ f.is) in
     (same.1, append_cancel_left w x.0 rest (ap (λ (z : List ℕ). z ++ x.0) same.0 ∙ sym f.is ∙ e))
-read_back_in_hand IsCut Form G value memory word one input (Err r) (inl m) v w rest s e = m
-read_back_in_hand IsCut Form G value memory word one input (Err r) (inr n) v w rest s e =
-    absurd (none_now (IsCut input) r G input n w rest v e (word v w s))
+assert_read_back_valid IsTruncated Form G value memory word one input (Err r) (inl m) v w rest s e = m
+assert_read_back_valid IsTruncated Form G value memory word one input (Err r) (inr n) v w rest s e =
+    absurd (none_now (IsTruncated input) r G input n w rest v e (word v w s))
 
 -- and where there is only proof that octets are it, as of those that are written of a set
-pub read_back : {T V E : Type 0} (IsCut : List ℕ → Type 0) (Form : V → Identifier → List ℕ → Type 0)
+pub read_back : {T V E : Type 0} (IsTruncated : List ℕ → Type 0) (Form : V → Identifier → List ℕ → Type 0)
     (G : List ℕ → V → Type 0) (value : T → V) (memory : Refusal E → Type 0) → IsSet V →
-    ((v : V) (o : List ℕ) → IsStrict Form v o → G o v) → IsOneFront G →
-    (input : List ℕ) (answer : Result (List ℕ × T) (Refusal E)) → Exactly IsCut G value memory input answer →
+    ((v : V) (o : List ℕ) → IsStrict Form v o → G o v) → IsPrefixFree G →
+    (input : List ℕ) (answer : Result (List ℕ × T) (Refusal E)) → Exactly IsTruncated G value memory input answer →
     (v : V) (w rest : List ℕ) → ∥ IsStrict Form v w ∥₁ → input ≡ w ++ rest → ReadsBack value memory v rest answer
-read_back IsCut Form G value memory equality word one input (Ok x) f v w rest s e =
+read_back IsTruncated Form G value memory equality word one input (Ok x) f v w rest s e =
     ∥∥₁_elim s (×_prop (equality v (value x.1)) (octets_set x.0 rest))
-    (λ t. read_back_in_hand IsCut Form G value memory word one input (Ok x) f v w rest t e)
-read_back IsCut Form G value memory equality word one input (Err r) (inl m) v w rest s e = m
-read_back IsCut Form G value memory equality word one input (Err r) (inr n) v w rest s e =
-    absurd (∥∥₁_elim s ⊥_prop (λ t. none_now (IsCut input) r G input n w rest v e (word v w t)))
+    (λ t. assert_read_back_valid IsTruncated Form G value memory word one input (Ok x) f v w rest t e)
+read_back IsTruncated Form G value memory equality word one input (Err r) (inl m) v w rest s e = m
+read_back IsTruncated Form G value memory equality word one input (Err r) (inr n) v w rest s e =
+    absurd (∥∥₁_elim s ⊥_prop (λ t. none_now (IsTruncated input) r G input n w rest v e (word v w t)))

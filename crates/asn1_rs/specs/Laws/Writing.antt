@@ -15,7 +15,7 @@ use Rattle.asn1_rs.specs.ToDer.{Writing, held_writing, whole_octets, whole_refus
 use Rattle.x690.specs.Collections.{multiset}
 use Rattle.x690.specs.Laws.Collections.{permutation_from_multiset}
 use Rattle.asn1_rs.specs.Laws.Forms.{der_strict, behind_header, whole_writable}
-use Rattle.asn1_rs.specs.Laws.InHand.{list_writable, members_writable, multiset_writable}
+use Rattle.asn1_rs.specs.Laws.AssertValid.{list_writable, members_writable, multiset_writable}
 use Rattle.asn1_rs.specs.Laws.Lists.{list_by_value, list_has_form, list_writes_form}
 use Rattle.asn1_rs.specs.Laws.Set.{members_are, members_have_form, members_moved, multiset_has_form, set_by_value}
 use Rattle.asn1_rs.specs.Laws.Set.{set_writes_form}

@@ -8,7 +8,7 @@ use Rattle.asn1_headers.specs.declared.error.Error.TheVariants as errors
 use Rattle.asn1_rs.specs.declared.asn1_types.sequence.iterator.SequenceIterator.{SequenceIterator}
 use Rattle.asn1_headers.specs.Walk.{TakesItem}
 use Rattle.x690.specs.Octets.{IsOctets}
-use Rattle.x690.specs.Joined.{NoFront, IsOneFront, IsJoined}
+use Rattle.x690.specs.Joined.{NoPrefix, IsPrefixFree, IsConcatenation}
 use Rattle.asn1_headers.specs.Answers.{Exactly}
 use Rattle.asn1_rs.specs.declared.asn1_types.any.Any.{Any}
 use Rattle.asn1_rs.specs.Any.{IsTheElement}
@@ -19,11 +19,11 @@ abbrev pub octets_left : {T F E : Type 0} → SequenceIterator T F E → List �
 octets_left s = s.left.now
 
 -- A reader takes an item exactly where a word of the grammar begins the octets, and one word alone begins an input.
-pub record ReadsExactly {T V E : Type 0} (IsCut : List ℕ → Type 0) (G : List ℕ → V → Type 0) (value : T → V)
+pub record ReadsExactly {T V E : Type 0} (IsTruncated : List ℕ → Type 0) (G : List ℕ → V → Type 0) (value : T → V)
     (memory : Refusal E → Type 0) (reads : List ℕ → Result (List ℕ × T) (Refusal E) → Type 0) : Type 0 where
-  pub one_word : IsOneFront G
+  pub one_word : IsPrefixFree G
   pub takes : (octets : List ℕ) (answer : Result (List ℕ × T) (Refusal E)) → IsOctets octets → reads octets answer →
-      Exactly IsCut G value memory octets answer
+      Exactly IsTruncated G value memory octets answer
 
 -- What a call of `next` on the iterator answers, and the iterator that it leaves.
 abbrev pub WalkSteps : {T F E : Type 0} → (List ℕ → Result (List ℕ × T) (Refusal E) → Type 0) → (Error → E → Type 0) →
@@ -65,13 +65,13 @@ pub record EndsJoined {V E : Type 0} (G : List ℕ → V → Type 0) (Tells : Li
   pub front : List ℕ
   pub others : List ℕ
   pub is : octets ≡ front ++ others
-  pub joined : IsJoined G front values
+  pub joined : IsConcatenation G front values
   pub some : others ≢ []
   pub tells : Tells others e
 
 -- a refusal tells that no word begins what is left, or reports out of memory, where the reader allocates
 abbrev pub TellsNoWord : {V E : Type 0} → (List ℕ → V → Type 0) → (E → Type 0) → List ℕ → E → Type 0
-TellsNoWord G memory octets e = memory e ⊎ NoFront G octets
+TellsNoWord G memory octets e = memory e ⊎ NoPrefix G octets
 
 -- where a word begins what is left a refusal reports out of memory alone
 abbrev pub TellsMemoryAlone : {E : Type 0} → (E → Type 0) → List ℕ → E → Type 0

@@ -23,7 +23,7 @@ use Rattle.asn1_rs.specs.Laws.Boolean.{bool_lawful}
 use Rattle.asn1_rs.specs.Laws.Enumerated.{enumerated_lawful, enumerated_equal}
 use Rattle.asn1_rs.specs.Laws.Integer.Signed.{signed_equal}
 use Rattle.asn1_rs.specs.Laws.Integer.Unsigned.{unsigned_equal}
-use Rattle.asn1_rs.specs.Structs.{EncodingRules, words_by, IsCutBy, FieldGrammar, left_out_by, Numbers, among}
+use Rattle.asn1_rs.specs.Structs.{EncodingRules, words_by, IsTruncatedBy, FieldGrammar, left_out_by, Numbers, among}
 use Rattle.asn1_rs.specs.Structs.{item_field, ReadsField}
 use Rattle.asn1_rs.specs.Structs.Data.{LawfulTypeOf, LawfulFieldOf, AnswersField}
 use Rattle.asn1_rs.specs.Structs.Defaults.{default_field, default_writing, DefaultGives}
@@ -97,9 +97,9 @@ module _ {S W : Type 0} (inner : W → S) (D : LawfulDefaultOf S) (G : ItemGramm
   module _ (l : IsLawfulItem G) (rules : EncodingRules)
       (reads : List ℕ → Result (List ℕ × S) (Refusal Error) → Type 0)
       (exact : (octets : List ℕ) (answer : Result (List ℕ × S) (Refusal Error)) → IsOctets octets →
-      reads octets answer → Exactly (IsCutBy rules) (words_by rules G) G.value
+      reads octets answer → Exactly (IsTruncatedBy rules) (words_by rules G) G.value
       (TellsMemory G.allocates (λ (x y : Error). y ≡ x)) octets answer)
-      (quiet : G.allocates ≡ false → (octets : List ℕ) (answer : Result (List ℕ × S) (Refusal Error)) →
+      (never_oom : G.allocates ≡ false → (octets : List ℕ) (answer : Result (List ℕ × S) (Refusal Error)) →
       reads octets answer → IfErr answer (HeldIn (IsOther (λ (x y : Error). y ≡ x)))) where
     abbrev numbers : Numbers
     numbers = among (D.of.number ∷ [])
@@ -131,7 +131,7 @@ module _ {S W : Type 0} (inner : W → S) (D : LawfulDefaultOf S) (G : ItemGramm
         answer) (sym t.number_is) g in record {
           exact = λ k. default_reads inner D.of.number D.of.grammar D.default rules reads own_reads octets answer k own;
           no_memory = λ none. default_no_memory inner D.of.grammar.value D.default (left_out_by D.of.number rules) reads
-              (quiet (t.allocates ∙ none)) octets answer own;
+              (never_oom (t.allocates ∙ none)) octets answer own;
         }
 
 -- Defaults of the types of the library.

@@ -18,7 +18,7 @@ use crate::kinds::leaf::{ConvertsLeaf, LeafType};
 use crate::kinds::writing::WritesElement;
 use crate::kinds::{ElementKind, HasKind, TagNumber};
 use crate::laws::LawfulMember;
-use crate::laws::in_hand::octets_in_hand;
+use crate::laws::assert_valid::assert_octets_valid;
 use asn1_headers::buffer::{DerBuffer, prepend_behind, prepend_octets};
 use asn1_headers::error::{DerConstraint, Error, SerializeResult};
 use asn1_headers::header::writing::put_header;
@@ -189,9 +189,9 @@ impl LeafType for BitString<'_> {
 
     ghost exact = { lent_exact bit_string_leaf bit_string_lawful (λ s. s.content) };
 
-    fn leaf_in_hand(&self) {
+    fn assert_leaf_valid(&self) {
         let _count = self.unused_bits;
-        octets_in_hand(self.as_bytes());
+        assert_octets_valid(self.as_bytes());
     }
 
     /// Refuses a constructed element with `ConstructUnexpected` (X.690 10.2). It refuses no contents octets, or one

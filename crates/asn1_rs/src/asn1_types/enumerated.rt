@@ -12,7 +12,7 @@ use crate::asn1_types::any::Any;
 use crate::asn1_types::integer::{
     prepend_unsigned_content, put_unsigned_content, unsigned_element,
 };
-use crate::kinds::in_hand::DerElement;
+use crate::kinds::assert_valid::DerElement;
 use crate::kinds::leaf::{ConvertsLeaf, LeafType};
 use crate::kinds::writing::{Piece, WritesElement};
 use crate::kinds::{ElementKind, HasKind, TagNumber};
@@ -72,7 +72,7 @@ impl LeafType for Enumerated {
 
     ghost exact = { leaf_exact enumerated_leaf enumerated_lawful };
 
-    fn leaf_in_hand(&self) {
+    fn assert_leaf_valid(&self) {
         let _number = self.0;
     }
 

@@ -30,7 +30,7 @@ use crate::kinds::collections::CollectionKind;
 use crate::kinds::reading::{
     CheckBy, ConstructedForm, EncodingForm, FromAnyBy, FromDerBy, ListReader,
 };
-use crate::laws::in_hand::States;
+use crate::laws::assert_valid::States;
 use crate::to_der::ToDer;
 use crate::traits::{CheckDerConstraints, FromBer, FromDer, Tagged, converted};
 use asn1_headers::buffer::DerBuffer;

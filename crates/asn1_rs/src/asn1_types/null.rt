@@ -10,7 +10,7 @@ ghost use Rattle.asn1_rs.specs.Laws.Leaf.{leaf_exact, leaf_written};
 ghost use Rattle.asn1_rs.specs.Laws.Null.{null_lawful, unit_lawful};
 
 use crate::asn1_types::any::Any;
-use crate::kinds::in_hand::DerElement;
+use crate::kinds::assert_valid::DerElement;
 use crate::kinds::leaf::{ConvertsLeaf, LeafType};
 use crate::kinds::writing::WritesOctets;
 use crate::kinds::{ElementKind, HasKind, TagNumber};
@@ -67,7 +67,7 @@ impl LeafType for Null {
 
     ghost exact = { leaf_exact null_leaf null_lawful };
 
-    fn leaf_in_hand(&self) {}
+    fn assert_leaf_valid(&self) {}
 
     /// Refuses nothing.
     fn check_leaf(_any: &Any<'_>) -> Result<(), Error> {
@@ -111,7 +111,7 @@ impl LeafType for () {
 
     ghost exact = { leaf_exact unit_leaf unit_lawful };
 
-    fn leaf_in_hand(&self) {}
+    fn assert_leaf_valid(&self) {}
 
     /// Refuses nothing.
     fn check_leaf(_any: &Any<'_>) -> Result<(), Error> {

@@ -10,12 +10,12 @@ ghost use Rattle.asn1_rs.specs.Laws.OctetString.{octet_string_lawful, octet_stri
 ghost use Rattle.asn1_rs.specs.OctetString.{octet_string_leaf, slice_leaf, octets_of, cow_of};
 
 use crate::asn1_types::any::Any;
-use crate::kinds::in_hand::DerElement;
+use crate::kinds::assert_valid::DerElement;
 use crate::kinds::leaf::{ConvertsLeaf, LeafType};
 use crate::kinds::writing::WritesOctets;
 use crate::kinds::{ElementKind, HasKind, TagNumber};
 use crate::laws::LawfulMember;
-use crate::laws::in_hand::octets_in_hand;
+use crate::laws::assert_valid::assert_octets_valid;
 use asn1_headers::error::Error;
 use asn1_headers::tag::Tag;
 use std::alloc::Global;
@@ -113,8 +113,8 @@ impl LeafType for OctetString<'_> {
 
     ghost exact = { lent_exact octet_string_leaf octet_string_lawful cow_of };
 
-    fn leaf_in_hand(&self) {
-        octets_in_hand(self.as_bytes());
+    fn assert_leaf_valid(&self) {
+        assert_octets_valid(self.as_bytes());
     }
 
     /// Refuses a constructed element with `ConstructUnexpected` (X.690 10.2).
@@ -162,8 +162,8 @@ impl LeafType for &[u8] {
 
     ghost exact = { leaf_exact slice_leaf slice_lawful };
 
-    fn leaf_in_hand(&self) {
-        octets_in_hand(*self);
+    fn assert_leaf_valid(&self) {
+        assert_octets_valid(*self);
     }
 
     /// Refuses a constructed element with `ConstructUnexpected` (X.690 10.2).

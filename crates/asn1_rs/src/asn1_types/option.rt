@@ -3,17 +3,17 @@
 //! An `Option` is no lawful item: its word would be empty where it holds nothing, so items of a list could not be told
 //! apart. Its laws speak of the value that it holds, of what stands in its place, and of refusals.
 ghost use Rattle.std.specs.Prelude.{◌≡◌, ◌≢◌, ◌↔◌, Bool, false, IsTrue};
-ghost use Rattle.x690.specs.Identifiers.{IsCutIdentifier};
+ghost use Rattle.x690.specs.Identifiers.{IsTruncatedIdentifier};
 ghost use Rattle.x690.specs.Elements.{IsDerElement};
 ghost use Rattle.x690.specs.Nested.{IsElement};
 ghost use Rattle.x690.specs.Rules.{Rule, der_rule, ber_rule};
-ghost use Rattle.x690.specs.Faults.{Breach};
+ghost use Rattle.x690.specs.Faults.{Violation};
 ghost use Rattle.asn1_headers.specs.declared.error.Error.{Error};
 ghost use Rattle.asn1_headers.specs.Answers.{seen, TellsMemory};
 ghost use Rattle.asn1_rs.specs.Any.{IsTheElement, IsDefiniteOr};
 ghost use Rattle.asn1_rs.specs.Faults.{TellsHeaderFirst};
 ghost use Rattle.asn1_headers.specs.Ber.{max_depth, EndsWithin};
-ghost use Rattle.asn1_headers.specs.Header.Reading.{refusal_of, ber_breach, der_breach, HeaderGives};
+ghost use Rattle.asn1_headers.specs.Header.Reading.{refusal_of, ber_violation, der_violation, HeaderGives};
 ghost use Rattle.asn1_rs.specs.Grammar.Item.{ber_words};
 ghost use Rattle.asn1_rs.specs.Optional.{IsLeftOut, IsAtEnd, OptionGives, ReadsHeldBack, ReadsNoneBefore};
 ghost use Rattle.asn1_rs.specs.Optional.{ReadsNoneAtEnd, in_some, held_or, is_of_another_tag, IsWithoutRawTag, none_or};
@@ -36,7 +36,7 @@ use std::alloc::Global;
 /// are no octets, or the header has another tag number.
 #[inline(always)]
 fn is_left_out(tag: Tag, octets: &[u8], read: ParseResult<'_, Header<'_>, Error>) -> bool
-    ensures { (rule : Rule) (refuses : Breach → Error)
+    ensures { (rule : Rule) (refuses : Violation → Error)
         → HeaderGives rule (refusal_of refuses) octets.now (seen read.entry)
         → IsTrue result ↔ IsLeftOut rule tag.0 octets.now }
 {
@@ -313,7 +313,7 @@ where
     E: From<Error>,
     ensures last { RefusesAsHeld (OptionGives (IsLeftOut ber_rule (T.TAG).0) T.ber_gives) T.ber_gives
         EndsWithin (ber_words T.grammar) (TellsMemory T.grammar.allocates E.from_gives) }
-    ensures stays { TellsHeaderFirst ber_rule ber_breach E.from_gives T.ber_gives →
+    ensures stays { TellsHeaderFirst ber_rule ber_violation E.from_gives T.ber_gives →
         StaysIn (IsLeftOut ber_rule (T.TAG).0)
         (OptionGives (IsLeftOut ber_rule (T.TAG).0) T.ber_gives) }
 {}
@@ -324,8 +324,8 @@ where
     T: LawfulDer<'a, E> + Tagged,
     E: From<Error>,
     ensures last { RefusesAsHeld (OptionGives (IsLeftOut der_rule (T.TAG).0) T.der_gives) T.der_gives
-        IsCutIdentifier T.grammar.Der (TellsMemory T.grammar.allocates E.from_gives) }
-    ensures stays { TellsHeaderFirst der_rule der_breach E.from_gives T.der_gives →
+        IsTruncatedIdentifier T.grammar.Der (TellsMemory T.grammar.allocates E.from_gives) }
+    ensures stays { TellsHeaderFirst der_rule der_violation E.from_gives T.der_gives →
         StaysIn (IsLeftOut der_rule (T.TAG).0)
         (OptionGives (IsLeftOut der_rule (T.TAG).0) T.der_gives) }
 {}
@@ -336,7 +336,7 @@ pub fn optional_elements_are_refused()
     ensures ber { RefusesAsHeld (OptionGives IsAtEnd (BerGives IsTheElement (λ e f. f ≡ e)))
         (BerGives IsTheElement (λ e f. f ≡ e)) EndsWithin (IsElement max_depth) (λ r. ⊥) }
     ensures der { RefusesAsHeld (OptionGives IsAtEnd (DerGives IsDefiniteOr IsTheElement (λ e f. f ≡ e)))
-        (DerGives IsDefiniteOr IsTheElement (λ e f. f ≡ e)) IsCutIdentifier IsDerElement (λ r. ⊥) }
+        (DerGives IsDefiniteOr IsTheElement (λ e f. f ≡ e)) IsTruncatedIdentifier IsDerElement (λ r. ⊥) }
     ensures ber_stays { StaysIn IsAtEnd (OptionGives IsAtEnd (BerGives IsTheElement (λ e f. f ≡ e))) }
     ensures der_stays { StaysIn IsAtEnd
         (OptionGives IsAtEnd (DerGives IsDefiniteOr IsTheElement (λ e f. f ≡ e))) }

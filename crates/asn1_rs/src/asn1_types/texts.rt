@@ -10,12 +10,12 @@ ghost use Rattle.asn1_rs.specs.Laws.Texts.{lent_text_lawful, lent_text_equal, ow
 ghost use Rattle.asn1_rs.specs.Texts.{lent_text_leaf, owned_text_leaf};
 
 use crate::asn1_types::any::Any;
-use crate::kinds::in_hand::DerElement;
+use crate::kinds::assert_valid::DerElement;
 use crate::kinds::leaf::{ConvertsLeaf, LeafType};
 use crate::kinds::writing::WritesOctets;
 use crate::kinds::{ElementKind, HasKind, TagNumber};
 use crate::laws::LawfulMember;
-use crate::laws::in_hand::text_in_hand;
+use crate::laws::assert_valid::assert_text_valid;
 use crate::traits::Tagged;
 use asn1_headers::error::Error;
 use asn1_headers::tag::Tag;
@@ -76,8 +76,8 @@ impl LeafType for &str {
 
     ghost exact = { leaf_exact lent_text_leaf lent_text_lawful };
 
-    fn leaf_in_hand(&self) {
-        text_in_hand(*self);
+    fn assert_leaf_valid(&self) {
+        assert_text_valid(*self);
     }
 
     /// Refuses a constructed element with `ConstructUnexpected` (X.690 10.2).
@@ -124,8 +124,8 @@ impl LeafType for String {
 
     ghost exact = { copying_exact owned_text_leaf owned_text_lawful };
 
-    fn leaf_in_hand(&self) {
-        text_in_hand(self.as_str());
+    fn assert_leaf_valid(&self) {
+        assert_text_valid(self.as_str());
     }
 
     /// Refuses a constructed element with `ConstructUnexpected` (X.690 10.2).

@@ -1,7 +1,7 @@
 //! The arms of a choice: a type, or the others behind it, with [`Never`] at the end.
 ghost use Rattle.std.specs.Prelude.{◌≡◌, ◌≢◌, ◌∷◌, [], ℕ, List, None, Result, Err, false, IfErr};
 ghost use Rattle.x690.specs.Octets.{IsOctets};
-ghost use Rattle.x690.specs.Identifiers.{Identifier, IsCutIdentifier};
+ghost use Rattle.x690.specs.Identifiers.{Identifier, IsTruncatedIdentifier};
 ghost use Rattle.x690.specs.Elements.{Parts};
 ghost use Rattle.asn1_headers.specs.Answers.{seen, Exactly, TellsMemory, IsOther};
 ghost use Rattle.asn1_headers.specs.Class.{class_number};
@@ -19,9 +19,9 @@ ghost use Rattle.asn1_rs.specs.Choices.{OrGives, OrChecks};
 ghost use Rattle.asn1_rs.specs.Choices.Data.{LawfulArmsOf, end_of_arms, arm_before};
 ghost use Rattle.asn1_rs.specs.Grammar.{TakesBody};
 ghost use Rattle.asn1_rs.specs.Kinds.{IsExactCheck};
-ghost use Rattle.asn1_rs.specs.Laws.Choices.Readers.{AreTagged, none_tagged, or_tagged, none_reads, none_reads_quiet};
-ghost use Rattle.asn1_rs.specs.Laws.Choices.Readers.{or_reads_exact, or_reads_quiet, or_reads_other, or_takes};
-ghost use Rattle.asn1_rs.specs.Laws.Choices.Readers.{or_takes_quiet, or_takes_other, or_checks, none_takes, none_takes_quiet};
+ghost use Rattle.asn1_rs.specs.Laws.Choices.Readers.{AreTagged, none_tagged, or_tagged, none_reads, none_reads_never_oom};
+ghost use Rattle.asn1_rs.specs.Laws.Choices.Readers.{or_reads_exact, or_reads_never_oom, or_reads_other, or_takes};
+ghost use Rattle.asn1_rs.specs.Laws.Choices.Readers.{or_takes_never_oom, or_takes_other, or_checks, none_takes, none_takes_never_oom};
 ghost use Rattle.asn1_rs.specs.Laws.Choices.Readers.{NoArmChecks, none_checks, not_memory};
 ghost use Rattle.asn1_rs.specs.Laws.Structs.Rows.{or_neither};
 ghost use Rattle.asn1_rs.specs.Structs.{is_one_of};
@@ -133,11 +133,11 @@ pub trait ReadsArms<'a>: Sized {
     /// What reading may answer is exact by the grammar.
     ghost exact_arms: { (i : Identifier) (input : List ℕ) (answer : Result (List ℕ × Self) (Refusal Error)) →
         IsOctets input → Self.arms_give i input answer →
-        Exactly IsCutIdentifier (Self.read_arms.Der i) Self.read_arms.value
+        Exactly IsTruncatedIdentifier (Self.read_arms.Der i) Self.read_arms.value
         (TellsMemory Self.read_arms.allocates (λ (e f : Error). f ≡ e)) input answer };
 
     /// It is not out of memory where nothing allocates.
-    ghost quiet_arms: { Self.read_arms.allocates ≡ false → (i : Identifier) (input : List ℕ)
+    ghost never_oom_arms: { Self.read_arms.allocates ≡ false → (i : Identifier) (input : List ℕ)
         (answer : Result (List ℕ × Self) (Refusal Error)) → Self.arms_give i input answer →
         IfErr answer (HeldIn (IsOther (λ (e f : Error). f ≡ e))) };
 
@@ -164,7 +164,7 @@ impl<'a> ReadsArms<'a> for Never {
 
     ghost exact_arms = { none_reads };
 
-    ghost quiet_arms = { λ none i input answer g. none_reads_quiet i.number answer g };
+    ghost never_oom_arms = { λ none i input answer g. none_reads_never_oom i.number answer g };
 
     ghost other_arms = { λ i input answer none g. g };
 }
@@ -200,10 +200,10 @@ where
     ghost exact_arms = { or_reads_exact CLASS (T.TAG).0 T.grammar R.read_arms T.der_gives R.arms_give
         T.der_exact R.exact_arms };
 
-    ghost quiet_arms = { λ none. or_reads_quiet CLASS (T.TAG).0 T.grammar R.read_arms T.der_gives R.arms_give
+    ghost never_oom_arms = { λ none. or_reads_never_oom CLASS (T.TAG).0 T.grammar R.read_arms T.der_gives R.arms_give
         (HeldIn (IsOther (λ (e f : Error). f ≡ e)))
         (T.der_no_memory (or_neither T.grammar.allocates R.read_arms.allocates none).0)
-        (R.quiet_arms (or_neither T.grammar.allocates R.read_arms.allocates none).1) };
+        (R.never_oom_arms (or_neither T.grammar.allocates R.read_arms.allocates none).1) };
 
     ghost other_arms = { or_reads_other CLASS (T.TAG).0 T.grammar R.read_arms T.der_gives R.arms_give
         R.other_arms };
@@ -242,7 +242,7 @@ pub trait TakesArms<'a>: Sized {
         (parts_of any) answer };
 
     /// It is not out of memory where nothing allocates.
-    ghost quiet_take: { Self.take_arms.allocates ≡ false → (any : Any) (e : Error) →
+    ghost never_oom_take: { Self.take_arms.allocates ≡ false → (any : Any) (e : Error) →
         Self.arms_take any (Err e) → e ≢ OutOfMemory };
 
     /// An element that is of no arm is refused.
@@ -277,7 +277,7 @@ impl<'a> TakesArms<'a> for Never {
 
     ghost exact_take = { none_takes };
 
-    ghost quiet_take = { λ none. none_takes_quiet };
+    ghost never_oom_take = { λ none. none_takes_never_oom };
 
     ghost other_take = { λ any answer none g. g };
 
@@ -325,11 +325,11 @@ where
     ghost exact_take = { or_takes CLASS (T.TAG).0 T.grammar R.take_arms T.any_gives R.arms_take T.body_exact
         R.exact_take };
 
-    ghost quiet_take = { λ none. or_takes_quiet CLASS (T.TAG).0 T.grammar R.take_arms T.any_gives R.arms_take
+    ghost never_oom_take = { λ none. or_takes_never_oom CLASS (T.TAG).0 T.grammar R.take_arms T.any_gives R.arms_take
         (λ e. e ≢ OutOfMemory)
         (λ any e g. not_memory e
         (T.body_no_memory (or_neither T.grammar.allocates R.take_arms.allocates none).0 any e g))
-        (R.quiet_take (or_neither T.grammar.allocates R.take_arms.allocates none).1) };
+        (R.never_oom_take (or_neither T.grammar.allocates R.take_arms.allocates none).1) };
 
     ghost other_take = { or_takes_other CLASS (T.TAG).0 T.grammar R.take_arms T.any_gives R.arms_take
         R.other_take };

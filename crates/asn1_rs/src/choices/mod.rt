@@ -10,9 +10,19 @@
 //!
 //!     pub type TimeArms = OrUniversal<UtcTime, OrUniversal<GeneralizedTime, Never>>;
 //!
+//! The check of a choice takes longer with each arm, and most with those that have a lifetime. So a choice of many arms
+//! is divided in parts, each an enum that is a choice of a few arms ([`nested`]). [`taken_arm`] has an arm whose type is
+//! too large for those of [`arms`], and [`boxed`] a choice on the heap, which may hold itself.
+//!
 //! The laws of the arms stand in the choice's own record ([`LawfulChoice`]), and what holds a choice asks nothing of them.
 
 pub(crate) mod arms;
+pub(crate) mod boxed;
+pub(crate) mod checks;
+pub(crate) mod nested;
+pub(crate) mod taken;
+pub(crate) mod taken_arm;
+pub(crate) mod told;
 pub(crate) mod writing;
 
 ghost use Rattle.std.specs.Prelude.{◌≡◌, ◌≢◌, ℕ, List, Result, Err, false, IfErr};
@@ -25,13 +35,13 @@ ghost use Rattle.asn1_rs.specs.Any.{parts_of};
 ghost use Rattle.asn1_rs.specs.Choices.{ChoiceReads, ChoiceGives, KnowsClass, choice_grammar};
 ghost use Rattle.asn1_rs.specs.Choices.Data.{LawfulChoiceOf, AnswersByDer, AnswersOf, ChecksOf, grammar_of_choice};
 ghost use Rattle.asn1_rs.specs.Choices.Data.{ReadsChoiceAlso, TakesChoiceAlso};
-ghost use Rattle.asn1_rs.specs.Structs.{Untold};
+ghost use Rattle.asn1_rs.specs.Structs.{Unspecified};
 ghost use Rattle.asn1_rs.specs.Laws.Choices.{choice_lawful};
 ghost use Rattle.asn1_rs.specs.Laws.Choices.Readers.{choice_reads, choice_gives, choice_checks, of_another};
 
 use crate::asn1_types::any::Any;
 use crate::choices::arms::{ReadsArms, TakesArms};
-use crate::choices::writing::{InHand, UsesArm};
+use crate::choices::writing::{AssertValid, UsesArm};
 use crate::der::element_by_der;
 use crate::kinds::reading::{
     CheckBy, FromAnyBy, FromDerBy, HasReader, LawfulBodyBy, LawfulCheckBy, LawfulDerBy,
@@ -115,7 +125,7 @@ pub trait ReadsChoice<'a>: LawfulChoice {
     /// What reading may answer, with the refusal of the arm. Of a choice that leaves it out clauses say of the refusal
     /// of an arm only that it is final. It is that of its arms: `ChoiceReads` with their classes and tag numbers, how a
     /// value is one of an arm, and `arms_give` of [`ReadsArms`].
-    ghost choice_gives: { List ℕ → Result (List ℕ × Self) (Refusal Error) → Type 0 } = { Untold };
+    ghost choice_gives: { List ℕ → Result (List ℕ × Self) (Refusal Error) → Type 0 } = { Unspecified };
 
     /// Reads a value of the arm whose class and tag number the element has that begins the octets. Where no arm has its
     /// class it is refused with `UnexpectedClass`, and with `UnexpectedTag` where none of its class has its tag number.
@@ -136,7 +146,7 @@ pub trait ReadsChoice<'a>: LawfulChoice {
 pub trait ReadsChoiceByBer<'a>: LawfulChoice {
     /// What the conversion may answer, with the refusal of the arm, as `choice_gives`: `ChoiceGives` and `arms_take` of
     /// [`TakesArms`].
-    ghost choice_takes: { Any → Result Self Error → Type 0 } = { Untold };
+    ghost choice_takes: { Any → Result Self Error → Type 0 } = { Unspecified };
 
     /// The value of the arm whose class and tag number the element has. Refused as by DER where it is of no arm.
     fn choice_of_any(alloc: Global, any: Any<'a>) -> Result<Self, Error>
@@ -234,7 +244,7 @@ impl<T: LawfulChoice> LawfulItemBy<ChoiceKind> for T {
     ghost lawful_by_kind = { choice_lawful T.laws.as_arms T.laws.arms.grammar T.laws.lawful };
 
     fn value_by_kind(&self) {
-        self.with_arm(InHand);
+        self.with_arm(AssertValid);
     }
 }
 

@@ -29,9 +29,9 @@ pub trait UsesArm: Sized {
 
 /// States that it is one of its type's.
 #[derive(Debug, Clone, Copy)]
-pub struct InHand;
+pub struct AssertValid;
 
-impl UsesArm for InHand {
+impl UsesArm for AssertValid {
     type Answer = ();
 
     ghost answers = { HasTypeValue };

@@ -31,7 +31,7 @@ use crate::asn1_types::set::{prepend_ascending, write_ascending};
 use crate::header::{element_len, put_counted_header};
 use crate::kinds::writing::{LawfulTaggedBy, LawfulWriteBy, TakesClassBy, ToDerBy};
 use crate::kinds::{GrammarBy, HasKind, LawfulItemBy};
-use crate::laws::in_hand::OfValue;
+use crate::laws::assert_valid::OfValue;
 use crate::laws::{Grammar, LawfulItem, LawfulWrite};
 use crate::to_der::ToDer;
 use crate::traits::Tagged;

@@ -23,7 +23,7 @@ pub trait LeafType: HasKind<Kind = ElementKind> + Sized {
     ghost reading: { LeafReading Self };
 
     /// States of an item in hand that its value is one of the type's.
-    fn leaf_in_hand(&self)
+    fn assert_leaf_valid(&self)
         ensures { reading.element.IsValue (reading.element.value self.now) };
 
     /// `check_constraints`.
@@ -74,8 +74,8 @@ impl<T: LeafType> LawfulElement for T {
 
     ghost lawful = { T.exact.lawful };
 
-    fn value_in_hand(&self) {
-        self.leaf_in_hand();
+    fn assert_value_valid(&self) {
+        self.assert_leaf_valid();
     }
 }
 

@@ -8,9 +8,9 @@
 //! fields too ([`fields`]), and values under a tag ([`TagMark`](crate::asn1_types::tagged::TagMark)). A type of another
 //! make has those traits itself and no kind.
 
+pub(crate) mod assert_valid;
 pub(crate) mod collections;
 pub(crate) mod fields;
-pub(crate) mod in_hand;
 pub(crate) mod leaf;
 pub(crate) mod reading;
 pub(crate) mod writing;
@@ -131,7 +131,7 @@ pub trait LawfulElement: HasKind<Kind = ElementKind> + Sized {
     ghost element: { ElementGrammar Self };
 
     /// States of an item in hand that its value is one of the type's: the body reads what the item holds.
-    fn value_in_hand(&self)
+    fn assert_value_valid(&self)
         ensures { element.IsValue (element.value self.now) };
 
     /// An element has one value, a value one strict element, and this has the value and passes the check.
@@ -169,7 +169,7 @@ impl<T: LawfulElement> LawfulItemBy<ElementKind> for T {
     ghost lawful_by_kind = { lawful_item T.element T.lawful };
 
     fn value_by_kind(&self) {
-        self.value_in_hand();
+        self.assert_value_valid();
     }
 }
 

@@ -6,14 +6,14 @@
 //! be meant, to a bounded depth, is inferred from tries (docs/DECISIONS.md).
 ghost use Rattle.std.specs.Prelude.{◌≡◌, ℕ, List, Result, Err, IfErr, false};
 ghost use Rattle.x690.specs.Octets.{IsOctets};
-ghost use Rattle.x690.specs.Identifiers.{IsCutIdentifier};
+ghost use Rattle.x690.specs.Identifiers.{IsTruncatedIdentifier};
 ghost use Rattle.x690.specs.Elements.{Parts, IsDerElement};
 ghost use Rattle.x690.specs.Faults.{DerElementFault};
 ghost use Rattle.asn1_headers.specs.declared.error.Err.{Err as Refusal};
 ghost use Rattle.asn1_headers.specs.declared.error.Error.{Error};
 ghost use Rattle.asn1_headers.specs.Answers.{seen, Exactly, TellsMemory, IsOther};
 ghost use Rattle.asn1_headers.specs.Error.{HeldIn};
-ghost use Rattle.asn1_headers.specs.Header.Reading.{der_breach};
+ghost use Rattle.asn1_headers.specs.Header.Reading.{der_violation};
 ghost use Rattle.asn1_rs.specs.declared.asn1_types.any.Any.{Any};
 ghost use Rattle.asn1_rs.specs.Any.{parts_of};
 ghost use Rattle.asn1_rs.specs.Checks.{CheckGives, has_number};
@@ -22,7 +22,7 @@ ghost use Rattle.asn1_rs.specs.Kinds.{IsExactCheck};
 ghost use Rattle.asn1_rs.specs.Lists.{IsListOr};
 ghost use Rattle.asn1_rs.specs.Traits.{DerGives};
 ghost use Rattle.asn1_rs.specs.Laws.Kinds.{other_error};
-ghost use Rattle.asn1_rs.specs.Laws.Readers.{element_exact, element_no_memory, der_breach_no_memory, der_elements};
+ghost use Rattle.asn1_rs.specs.Laws.Readers.{element_exact, element_no_memory, der_violation_no_memory, der_elements};
 
 use crate::asn1_types::any::Any;
 use crate::der::element_by_der;
@@ -215,7 +215,7 @@ pub trait LawfulDerBy<'a, R, E: From<Error>>: FromDer<'a, E> + LawfulItem {
     /// `der_exact`.
     ghost exact_by_reader: { (input : List ℕ) (answer : Result (List ℕ × Self) (Refusal E)) →
         IsOctets input → Self.der_gives input answer →
-        Exactly IsCutIdentifier Self.grammar.Der Self.grammar.value
+        Exactly IsTruncatedIdentifier Self.grammar.Der Self.grammar.value
         (TellsMemory Self.grammar.allocates E.from_gives) input answer };
 
     /// `der_no_memory`.
@@ -235,8 +235,8 @@ where
     T: LawfulBodyBy<'a, ElementKind, E> + LawfulCheckBy<ElementKind> + LawfulAuto,
 {
     ghost exact_by_reader = { λ input answer octets.
-        element_exact IsDerElement DerElementFault IsCutIdentifier der_elements
-        der_breach
+        element_exact IsDerElement DerElementFault IsTruncatedIdentifier der_elements
+        der_violation
         T.check_gives T.any_gives E.from_gives T.grammar.Check T.grammar.Body T.grammar.value
         T.grammar.allocates T.grammar.Der T.checks_by_kind.exact T.exact_by_kind T.der_split
         T.der_join
@@ -244,7 +244,7 @@ where
 
     ghost no_memory_by_reader = { λ none.
         element_no_memory IsDerElement DerElementFault
-        der_breach der_breach_no_memory
+        der_violation der_violation_no_memory
         T.check_gives T.any_gives E.from_gives T.checks_by_kind.asks_no_memory
         (T.no_memory_by_kind none) };
 }

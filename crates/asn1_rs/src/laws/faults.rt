@@ -4,8 +4,8 @@ ghost use Rattle.x690.specs.Faults.{DerElementFault};
 ghost use Rattle.x690.specs.Nested.{IsElement, ElementFault};
 ghost use Rattle.x690.specs.Rules.{der_rule, ber_rule};
 ghost use Rattle.asn1_headers.specs.Ber.{max_depth};
-ghost use Rattle.asn1_headers.specs.Header.Reading.{ber_breach, der_breach};
-ghost use Rattle.asn1_rs.specs.Faults.{TellsHeaderFirst, CutsAreCounted, CutsAreCountedOrWithin};
+ghost use Rattle.asn1_headers.specs.Header.Reading.{ber_violation, der_violation};
+ghost use Rattle.asn1_rs.specs.Faults.{TellsHeaderFirst, TruncationsAreCounted, TruncationsAreCountedOrWithin};
 ghost use Rattle.asn1_rs.specs.Lists.{ListTakes};
 ghost use Rattle.asn1_rs.specs.Tagged.{ThenByBer, ThenByDer};
 ghost use Rattle.asn1_rs.specs.Tagged.Explicit.{ExplicitGives};
@@ -24,9 +24,9 @@ pub fn faults_come_first_by_ber<'a, T, E>()
 where
     T: FromAny<'a, Error = E>,
     E: From<Error>,
-    ensures header { TellsHeaderFirst ber_rule ber_breach E.from_gives
+    ensures header { TellsHeaderFirst ber_rule ber_violation E.from_gives
         (BerGives T.any_gives E.from_gives) }
-    ensures cut { CutsAreCounted (ElementFault max_depth) (BerGives T.any_gives E.from_gives) }
+    ensures truncated { TruncationsAreCounted (ElementFault max_depth) (BerGives T.any_gives E.from_gives) }
 {}
 
 /// So it is by DER, where constraints are checked, and where they are not, as under an implicit tag.
@@ -34,13 +34,13 @@ pub fn faults_come_first_by_der<'a, T, E>()
 where
     T: FromAny<'a, Error = E> + CheckDerConstraints,
     E: From<Error>,
-    ensures header { TellsHeaderFirst der_rule der_breach E.from_gives
+    ensures header { TellsHeaderFirst der_rule der_violation E.from_gives
         (DerGives T.check_gives T.any_gives E.from_gives) }
-    ensures cut { CutsAreCounted DerElementFault
+    ensures truncated { TruncationsAreCounted DerElementFault
         (DerGives T.check_gives T.any_gives E.from_gives) }
-    ensures unchecked { TellsHeaderFirst der_rule der_breach E.from_gives
+    ensures unchecked { TellsHeaderFirst der_rule der_violation E.from_gives
         (DerGives PassesAll T.any_gives E.from_gives) }
-    ensures unchecked_cut { CutsAreCounted DerElementFault
+    ensures unchecked_truncated { TruncationsAreCounted DerElementFault
         (DerGives PassesAll T.any_gives E.from_gives) }
 {}
 
@@ -51,10 +51,10 @@ where
     T: FromDer<'a, E>,
     F: EncodingForm,
     E: From<Error>,
-    ensures header { TellsHeaderFirst der_rule der_breach E.from_gives (DerGives PassesAll
+    ensures header { TellsHeaderFirst der_rule der_violation E.from_gives (DerGives PassesAll
         (OfParts (ListTakes (F.form_gives (L.TAG).0) L.holds T.der_gives E.from_gives))
         E.from_gives) }
-    ensures cut { CutsAreCounted DerElementFault (DerGives PassesAll
+    ensures truncated { TruncationsAreCounted DerElementFault (DerGives PassesAll
         (OfParts (ListTakes (F.form_gives (L.TAG).0) L.holds T.der_gives E.from_gives))
         E.from_gives) }
 {}
@@ -64,32 +64,32 @@ pub fn faults_of_tags_come_first<'a, T, K, E, const CLASS: u8, const TAG: u32>()
 where
     T: FromDer<'a, E>,
     E: From<Error>,
-    ensures header { TellsHeaderFirst der_rule der_breach E.from_gives
+    ensures header { TellsHeaderFirst der_rule der_violation E.from_gives
         (ExplicitGives CLASS TAG (λ (t : TaggedValue T E K CLASS TAG). t.inner) T.der_gives
         E.from_gives) }
-    ensures cut { CutsAreCountedOrWithin DerElementFault IsDerElement T.der_gives
+    ensures truncated { TruncationsAreCountedOrWithin DerElementFault IsDerElement T.der_gives
         (ExplicitGives CLASS TAG (λ (t : TaggedValue T E K CLASS TAG). t.inner) T.der_gives
         E.from_gives) }
 {}
 
 /// `Incomplete` of a `TaggedParser` of an explicit tag tells what the element lacks, or what the value lacks in it.
-pub fn cuts_of_explicit_parsers_are_counted<'a, T, K, E>()
+pub fn truncations_of_explicit_parsers_are_counted<'a, T, K, E>()
 where
     T: FromBer<'a, E> + FromDer<'a, E>,
     E: From<Error>,
-    ensures ber { CutsAreCountedOrWithin (ElementFault max_depth) (IsElement max_depth) T.ber_gives
+    ensures ber { TruncationsAreCountedOrWithin (ElementFault max_depth) (IsElement max_depth) T.ber_gives
         (ThenByBer E.from_gives (TakesExplicit {K = K} T.ber_gives)) }
-    ensures der { CutsAreCountedOrWithin DerElementFault IsDerElement T.der_gives
+    ensures der { TruncationsAreCountedOrWithin DerElementFault IsDerElement T.der_gives
         (ThenByDer E.from_gives (TakesWhole {K = K} T.der_gives E.from_gives)) }
 {}
 
 /// That of a `TaggedParser` of an implicit tag tells what the element lacks.
-pub fn cuts_of_implicit_parsers_are_counted<'a, T, K, E>()
+pub fn truncations_of_implicit_parsers_are_counted<'a, T, K, E>()
 where
     T: FromAny<'a, Error = E> + CheckDerConstraints + Tagged,
     E: From<Error>,
-    ensures ber { CutsAreCounted (ElementFault max_depth)
+    ensures ber { TruncationsAreCounted (ElementFault max_depth)
         (ThenByBer E.from_gives (TakesImplicit {K = K} T.TAG T.any_gives)) }
-    ensures der { CutsAreCounted DerElementFault (ThenByDer E.from_gives (TakesImplicit {K = K}
+    ensures der { TruncationsAreCounted DerElementFault (ThenByDer E.from_gives (TakesImplicit {K = K}
         T.TAG (ChecksAndConverts T.check_gives T.any_gives E.from_gives))) }
 {}

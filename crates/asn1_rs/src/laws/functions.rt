@@ -5,11 +5,11 @@
 //! A law of a trait reaches a caller only through a bound.
 ghost use Rattle.std.specs.Prelude.{◌≡◌, [], ◌++◌, ◌<◌, ◌^◌, ◌↔◌, ℕ, false, List, length, Result, Err, IfErr};
 ghost use Rattle.x690.specs.Octets.{IsOctets};
-ghost use Rattle.x690.specs.Identifiers.{Identifier, IsCutIdentifier};
+ghost use Rattle.x690.specs.Identifiers.{Identifier, IsTruncatedIdentifier};
 ghost use Rattle.x690.specs.Lengths.{LengthForm};
 ghost use Rattle.x690.specs.Rules.{Rule};
 ghost use Rattle.x690.specs.Elements.{Parts, IsHeader, IsDerElement};
-ghost use Rattle.x690.specs.Faults.{Breach};
+ghost use Rattle.x690.specs.Faults.{Violation};
 ghost use Rattle.x690.specs.Nested.{IsElement};
 ghost use Rattle.asn1_headers.specs.declared.error.Err.{Err as Refusal};
 ghost use Rattle.asn1_headers.specs.declared.error.Error.{Error};
@@ -73,7 +73,7 @@ pub fn reader_is_exact_by_ber<'a, T: LawfulBer<'a, E>, E: From<Error>>()
 pub fn reader_is_exact_by_der<'a, T: LawfulDer<'a, E>, E: From<Error>>()
     ensures exact { (input : List ℕ) (answer : Result (List ℕ × T) (Refusal E)) → IsOctets input →
         T.der_gives input answer →
-        Exactly IsCutIdentifier T.grammar.Der T.grammar.value
+        Exactly IsTruncatedIdentifier T.grammar.Der T.grammar.value
         (TellsMemory T.grammar.allocates E.from_gives) input answer }
     ensures back { (input : List ℕ) (answer : Result (List ℕ × T) (Refusal E)) (v : T.grammar.Value)
         (w rest : List ℕ) → IsOctets input → T.der_gives input answer →
@@ -83,7 +83,7 @@ pub fn reader_is_exact_by_der<'a, T: LawfulDer<'a, E>, E: From<Error>>()
         (more word rest : List ℕ) (v : T.grammar.Value) → IsOctets input → T.der_gives input answer
         → T.grammar.Der word v → input ++ more ≡ word ++ rest → length input < length word
         → RefusedBeforeEnd (TellsMemory T.grammar.allocates E.from_gives)
-        (IsCutIdentifier input) more answer }
+        (IsTruncatedIdentifier input) more answer }
     ensures asks_no_memory { (input : List ℕ) (answer : Result (List ℕ × T) (Refusal E)) →
         T.grammar.allocates ≡ false → T.der_gives input answer →
         IfErr answer (HeldIn (IsOther E.from_gives)) }
@@ -216,16 +216,16 @@ pub fn strict_fronts_are_written_again<T: LawfulWrite>()
 /// Octets that are shorter than a header or an element, and that more of them make begin with it, are refused. They are
 /// refused with `Incomplete` of these or fewer, or with `InvalidTag` where they end within an identifier in high form.
 pub fn beginnings_are_refused()
-    ensures header { (rule : Rule) (refuses : Breach → Error)
+    ensures header { (rule : Rule) (refuses : Violation → Error)
         (input more front rest : List ℕ) (id : Identifier) (form : LengthForm)
         (answer : Result (List ℕ × Header) (Refusal Error))
         → HeaderGives rule (refusal_of refuses) input answer → IsHeader rule front id form
         → input ++ more ≡ front ++ rest → length input < length front
-        → RefusedAsBeginning (IsCutIdentifier input) more answer }
+        → RefusedAsBeginning (IsTruncatedIdentifier input) more answer }
     ensures element { (input more word rest : List ℕ) (p : Parts)
         (answer : Result (List ℕ × Any) (Refusal Error)) → DerElementGives input answer →
         IsDerElement word p → input ++ more ≡ word ++ rest → length input < length word →
-        RefusedAsBeginning (IsCutIdentifier input) more answer }
+        RefusedAsBeginning (IsTruncatedIdentifier input) more answer }
     ensures ber_element { (input more word rest : List ℕ) (p : Parts)
         (answer : Result (List ℕ × Any) (Refusal Error)) → BerElementGives input answer →
         IsElement max_depth word p → input ++ more ≡ word ++ rest → length input < length word →

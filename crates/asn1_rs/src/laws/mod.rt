@@ -4,20 +4,20 @@
 //! who prove. A type whose laws are proved can be read by [`read_ber`] and [`read_der`] and written by
 //! [`write_strict`], alone or nested in lists, sets and tags.
 
+pub(crate) mod assert_valid;
 pub(crate) mod faults;
 pub(crate) mod functions;
-pub(crate) mod in_hand;
 
 ghost use Rattle.std.specs.Prelude.{ℕ, Bool, List, ◌≡◌, ◌++◌, ◌<◌, ◌^◌, ◌↔◌, false, length, Result, Ok, Err};
 ghost use Rattle.std.specs.Prelude.{IsTrue, IfOk, IfErr, MatchResult};
 ghost use Rattle.std.specs.Borrow.{Bor};
 ghost use Rattle.std.specs.Io.KnownBytes.{Appends};
 ghost use Rattle.x690.specs.Octets.{IsOctets};
-ghost use Rattle.x690.specs.Identifiers.{Identifier, IsIdentifier, IsCutIdentifier};
+ghost use Rattle.x690.specs.Identifiers.{Identifier, IsIdentifier, IsTruncatedIdentifier};
 ghost use Rattle.x690.specs.Lengths.{LengthForm};
 ghost use Rattle.x690.specs.Rules.{Rule};
 ghost use Rattle.x690.specs.Elements.{Parts, IsHeader, IsDerElement};
-ghost use Rattle.x690.specs.Faults.{Breach};
+ghost use Rattle.x690.specs.Faults.{Violation};
 ghost use Rattle.x690.specs.Nested.{IsElement, ElementFault};
 ghost use Rattle.asn1_headers.specs.declared.error.Err.{Err as Refusal};
 ghost use Rattle.asn1_headers.specs.declared.error.Err.TheVariants.{Error as refused};
@@ -35,13 +35,13 @@ ghost use Rattle.asn1_headers.specs.Error.{HeldIn};
 ghost use Rattle.asn1_headers.specs.Writer.{Wrote, MayRefuse, IsMemoryOrLength};
 ghost use Rattle.asn1_headers.specs.declared.header.Header.{Header};
 ghost use Rattle.asn1_rs.specs.declared.asn1_types.any.Any.{Any};
-ghost use Rattle.asn1_headers.specs.Header.Reading.{refusal_of, ber_breach, HeaderGives, HeaderLasts};
+ghost use Rattle.asn1_headers.specs.Header.Reading.{refusal_of, ber_violation, HeaderGives, HeaderLasts};
 ghost use Rattle.asn1_headers.specs.Header.{KeepsLent};
 ghost use Rattle.asn1_rs.specs.Any.{parts_of, IsTheElement, IsDefiniteOr, DerElementGives, BerElementGives};
 ghost use Rattle.asn1_rs.specs.Any.{RefusalLasts, ElementLasts};
 ghost use Rattle.asn1_headers.specs.Content.{ContentStays};
 ghost use Rattle.asn1_rs.specs.Laws.Readers.{element_exact, element_no_memory};
-ghost use Rattle.asn1_rs.specs.Laws.Readers.{ber_breach_no_memory};
+ghost use Rattle.asn1_rs.specs.Laws.Readers.{ber_violation_no_memory};
 ghost use Rattle.asn1_rs.specs.Laws.Readers.{ber_elements, passes_all, all_pass};
 ghost use Rattle.asn1_rs.specs.Any.Writing.{element_writing};
 ghost use Rattle.asn1_rs.specs.ToDer.{whole_allocates, whole_octets};
@@ -71,10 +71,13 @@ pub use crate::asn1_types::texts::{numbers_of_texts, texts_have_one_refusal};
 pub use crate::asn1_types::times::{
     order_of_generalized_times, order_of_times, order_of_utc_times, times_have_one_refusal,
 };
+pub use crate::laws::assert_valid::{
+    AlwaysDer, assert_members_valid, assert_octets_valid, assert_text_valid,
+};
 pub use crate::laws::faults::{
-    cuts_of_explicit_parsers_are_counted, cuts_of_implicit_parsers_are_counted,
     faults_come_first_by_ber, faults_come_first_by_der, faults_of_lists_come_first,
-    faults_of_tags_come_first,
+    faults_of_tags_come_first, truncations_of_explicit_parsers_are_counted,
+    truncations_of_implicit_parsers_are_counted,
 };
 pub use crate::laws::functions::{
     beginnings_are_refused, check_is_exact, conversion_is_exact, counts_are_of_the_strict_encoding,
@@ -83,7 +86,6 @@ pub use crate::laws::functions::{
     strict_parts_have_the_number, strict_parts_take_the_class, words_and_values_are_unique,
     written_values_are_read_back_by_ber, written_values_are_read_back_by_der,
 };
-pub use crate::laws::in_hand::{AlwaysDer, members_in_hand, octets_in_hand, text_in_hand};
 use crate::to_der::ToDer;
 use crate::traits::{CheckDerConstraints, DerAutoDerive, FromAny, FromBer, FromDer, Tagged};
 pub use asn1_headers::class::classes_are_numbered;
@@ -162,7 +164,7 @@ pub trait LawfulDer<'a, E: From<Error>>: FromDer<'a, E> + LawfulItem {
     /// What the reader may answer is exact by the grammar by DER.
     ghost der_exact: { (input : List ℕ) (answer : Result (List ℕ × Self) (Refusal E)) →
         IsOctets input → Self.der_gives input answer →
-        Exactly IsCutIdentifier Self.grammar.Der Self.grammar.value
+        Exactly IsTruncatedIdentifier Self.grammar.Der Self.grammar.value
         (TellsMemory Self.grammar.allocates E.from_gives) input answer };
 
     /// Where the type does not allocate, no refusal reports out of memory.
@@ -212,14 +214,14 @@ where
 {
     ghost ber_exact = { λ input answer octets.
         element_exact (IsElement max_depth) (ElementFault max_depth) EndsWithin ber_elements
-        ber_breach PassesAll T.any_gives E.from_gives NoCheck T.grammar.Body
+        ber_violation PassesAll T.any_gives E.from_gives NoCheck T.grammar.Body
         T.grammar.value T.grammar.allocates (ber_words T.grammar) passes_all T.body_exact
         (λ o v w. w)
         (λ o v w. w) input answer };
 
     ghost ber_no_memory = { λ none.
-        element_no_memory (IsElement max_depth) (ElementFault max_depth) ber_breach
-        ber_breach_no_memory PassesAll T.any_gives E.from_gives all_pass (T.body_no_memory none) };
+        element_no_memory (IsElement max_depth) (ElementFault max_depth) ber_violation
+        ber_violation_no_memory PassesAll T.any_gives E.from_gives all_pass (T.body_no_memory none) };
 }
 
 /// Reads a value of a lawful type by BER.
@@ -254,7 +256,7 @@ pub fn read_der<'a, T: LawfulDer<'a, E>, E: From<Error>>(
     alloc: Global,
     bytes: &'a [u8],
 ) -> ParseResult<'a, T, E>
-    ensures exact { Exactly IsCutIdentifier T.grammar.Der T.grammar.value
+    ensures exact { Exactly IsTruncatedIdentifier T.grammar.Der T.grammar.value
         (TellsMemory T.grammar.allocates E.from_gives) bytes.now (seen result) }
     ensures back { (v : T.grammar.Value) (w rest : List ℕ) → ∥ IsStrict T.grammar.Form v w ∥₁ →
         bytes.now ≡ w ++ rest → ReadsBack T.grammar.value
@@ -332,11 +334,11 @@ pub fn strict_vec<T: LawfulWrite>(alloc: Global, x: &T) -> SerializeResult<Vec<u
 /// by BER, and of contents octets by BER. The input has one refusal, that of its first fault from the left. It has none
 /// where a header, an element, or contents octets begin it.
 pub fn one_refusal()
-    ensures header { (rule : Rule) (refuses : Breach → Error) (input : List ℕ) (q r : Refusal Error)
+    ensures header { (rule : Rule) (refuses : Violation → Error) (input : List ℕ) (q r : Refusal Error)
         → HeaderGives rule (refusal_of refuses) input (Err q)
         → HeaderGives rule (refusal_of refuses) input (Err r)
         → q ≡ r }
-    ensures no_header { (rule : Rule) (refuses : Breach → Error) (input : List ℕ)
+    ensures no_header { (rule : Rule) (refuses : Violation → Error) (input : List ℕ)
         (x : List ℕ × Header) (r : Refusal Error)
         → HeaderGives rule (refusal_of refuses) input (Ok x)
         → HeaderGives rule (refusal_of refuses) input (Err r)
@@ -402,24 +404,24 @@ pub fn elements_by_der_are_written_again()
 /// If appending n octets would make the input begin with a header or an element, the answer is `Incomplete(m)` with m
 /// at most n. An input that ends within an identifier in high form is `InvalidTag`.
 pub fn beginnings_are_incomplete()
-    ensures header { (rule : Rule) (refuses : Breach → Error) (input more front rest : List ℕ)
+    ensures header { (rule : Rule) (refuses : Violation → Error) (input more front rest : List ℕ)
         (id : Identifier) (form : LengthForm) (r : Refusal Error)
         → HeaderGives rule (refusal_of refuses) input (Err r)
         → IsHeader rule front id form
         → input ++ more ≡ front ++ rest
-        → TellsBeginning (IsCutIdentifier input) r more }
-    ensures header_within { (rule : Rule) (refuses : Breach → Error) (input : List ℕ)
+        → TellsBeginning (IsTruncatedIdentifier input) r more }
+    ensures header_within { (rule : Rule) (refuses : Violation → Error) (input : List ℕ)
         (answer : Result (List ℕ × Header) (Refusal Error))
-        → IsCutIdentifier input
+        → IsTruncatedIdentifier input
         → HeaderGives rule (refusal_of refuses) input answer
         → answer ≡ Err (refused errors.InvalidTag) }
     ensures element { (input more word rest : List ℕ) (p : Parts) (r : Refusal Error)
         → DerElementGives input (Err r)
         → IsDerElement word p
         → input ++ more ≡ word ++ rest
-        → TellsBeginning (IsCutIdentifier input) r more }
+        → TellsBeginning (IsTruncatedIdentifier input) r more }
     ensures element_within { (input : List ℕ) (answer : Result (List ℕ × Any) (Refusal Error))
-        → IsCutIdentifier input
+        → IsTruncatedIdentifier input
         → DerElementGives input answer
         → answer ≡ Err (refused errors.InvalidTag) }
     ensures ber_element { (input more word rest : List ℕ) (p : Parts) (r : Refusal Error)
@@ -438,12 +440,12 @@ pub fn beginnings_are_incomplete()
 /// octets of which the refusal speaks. A header or an element that is read is the one that begins the input, whatever
 /// follows, and so are contents octets.
 pub fn answers_last()
-    ensures header { (rule : Rule) (refuses : Breach → Error) (input : List ℕ) (x : List ℕ × Header)
+    ensures header { (rule : Rule) (refuses : Violation → Error) (input : List ℕ) (x : List ℕ × Header)
         → HeaderGives rule (refusal_of refuses) input (Ok x)
         → HeaderLasts input x.0 x.1 }
     ensures refusal { (input : List ℕ) (r : Refusal Error)
         → DerElementGives input (Err r)
-        → RefusalLasts IsDerElement IsCutIdentifier input r }
+        → RefusalLasts IsDerElement IsTruncatedIdentifier input r }
     ensures element { (input : List ℕ) (x : List ℕ × Any)
         → DerElementGives input (Ok x)
         → ElementLasts IsDerElement input x.0 x.1 }

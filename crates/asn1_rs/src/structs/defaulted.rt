@@ -12,7 +12,7 @@ ghost use Rattle.asn1_rs.specs.Structs.DefaultTypes.{LawfulDefaultOf, defaulted_
 ghost use Rattle.asn1_rs.specs.Structs.DefaultTypes.{IsTypeOf, default_bool, its_own_type};
 
 use crate::kinds::fields::Fields;
-use crate::laws::in_hand::AlwaysDer;
+use crate::laws::assert_valid::AlwaysDer;
 use crate::laws::{Grammar, LawfulBer, LawfulDer, LawfulItem, LawfulTagged};
 use crate::structs::field::{FieldIsDer, FieldType, LawfulType, ReadsField, WritesField};
 use crate::to_der::ToDer;
@@ -183,7 +183,7 @@ where
         fields.put(self)
     }
 
-    fn field_in_hand(&self) {
+    fn assert_field_valid(&self) {
         self.value.has_value();
     }
 }

@@ -22,7 +22,7 @@ use crate::asn1_types::any::Any;
 use crate::asn1_types::option::held;
 use crate::kinds::fields::Fields;
 use crate::laws::LawfulItem;
-use crate::laws::in_hand::AlwaysDer;
+use crate::laws::assert_valid::AlwaysDer;
 use crate::structs::ReadsBy;
 use crate::structs::putting::WritesType;
 use crate::structs::reading::ReadsType;
@@ -207,7 +207,7 @@ pub trait WritesField {
             result };
 
     /// States of the field in hand that its value is one of the type's.
-    fn field_in_hand(&self)
+    fn assert_field_valid(&self)
         ensures { has_a_value self.now };
 }
 
@@ -221,8 +221,8 @@ impl<T: WritesType> WritesField for T {
         self.put_type(fields)
     }
 
-    fn field_in_hand(&self) {
-        self.type_in_hand();
+    fn assert_field_valid(&self) {
+        self.assert_type_valid();
     }
 }
 
@@ -240,9 +240,9 @@ impl<T: WritesType> WritesField for Option<T> {
         }
     }
 
-    fn field_in_hand(&self) {
+    fn assert_field_valid(&self) {
         if let Some(x) = self {
-            x.type_in_hand();
+            x.assert_type_valid();
         }
     }
 }
@@ -257,7 +257,7 @@ impl<'a> WritesField for Any<'a> {
         fields.put(self)
     }
 
-    fn field_in_hand(&self) {
+    fn assert_field_valid(&self) {
         self.has_value();
     }
 }
@@ -272,7 +272,7 @@ impl<'a> WritesField for Option<Any<'a>> {
         fields.put(self)
     }
 
-    fn field_in_hand(&self) {
+    fn assert_field_valid(&self) {
         if let Some(x) = self {
             x.has_value();
         }

@@ -32,7 +32,7 @@ impl WritesType for bool {
         fields.put(self)
     }
 
-    fn type_in_hand(&self) {
+    fn assert_type_valid(&self) {
         self.has_value();
     }
 }
@@ -47,7 +47,7 @@ impl WritesType for Boolean {
         fields.put(self)
     }
 
-    fn type_in_hand(&self) {
+    fn assert_type_valid(&self) {
         self.has_value();
     }
 }
@@ -62,7 +62,7 @@ impl WritesType for () {
         fields.put(self)
     }
 
-    fn type_in_hand(&self) {
+    fn assert_type_valid(&self) {
         self.has_value();
     }
 }
@@ -77,7 +77,7 @@ impl WritesType for Null {
         fields.put(self)
     }
 
-    fn type_in_hand(&self) {
+    fn assert_type_valid(&self) {
         self.has_value();
     }
 }
@@ -92,7 +92,7 @@ impl WritesType for Enumerated {
         fields.put(self)
     }
 
-    fn type_in_hand(&self) {
+    fn assert_type_valid(&self) {
         self.has_value();
     }
 }
@@ -107,7 +107,7 @@ impl<'a> WritesType for Integer<'a> {
         fields.put(self)
     }
 
-    fn type_in_hand(&self) {
+    fn assert_type_valid(&self) {
         self.has_value();
     }
 }
@@ -122,7 +122,7 @@ impl<'a> WritesType for BitString<'a> {
         fields.put(self)
     }
 
-    fn type_in_hand(&self) {
+    fn assert_type_valid(&self) {
         self.has_value();
     }
 }
@@ -137,7 +137,7 @@ impl<'a> WritesType for OctetString<'a> {
         fields.put(self)
     }
 
-    fn type_in_hand(&self) {
+    fn assert_type_valid(&self) {
         self.has_value();
     }
 }
@@ -152,7 +152,7 @@ impl<'a> WritesType for &'a [u8] {
         fields.put(self)
     }
 
-    fn type_in_hand(&self) {
+    fn assert_type_valid(&self) {
         self.has_value();
     }
 }
@@ -167,7 +167,7 @@ impl<'a> WritesType for &'a str {
         fields.put(self)
     }
 
-    fn type_in_hand(&self) {
+    fn assert_type_valid(&self) {
         self.has_value();
     }
 }
@@ -182,7 +182,7 @@ impl<'a> WritesType for Sequence<'a> {
         fields.put(self)
     }
 
-    fn type_in_hand(&self) {
+    fn assert_type_valid(&self) {
         self.has_value();
     }
 }
@@ -197,7 +197,7 @@ impl<'a> WritesType for Set<'a> {
         fields.put(self)
     }
 
-    fn type_in_hand(&self) {
+    fn assert_type_valid(&self) {
         self.has_value();
     }
 }
@@ -212,7 +212,7 @@ impl WritesType for String {
         fields.put(self)
     }
 
-    fn type_in_hand(&self) {
+    fn assert_type_valid(&self) {
         self.has_value();
     }
 }
@@ -227,7 +227,7 @@ impl WritesType for u8 {
         fields.put(self)
     }
 
-    fn type_in_hand(&self) {
+    fn assert_type_valid(&self) {
         self.has_value();
     }
 }
@@ -242,7 +242,7 @@ impl WritesType for u16 {
         fields.put(self)
     }
 
-    fn type_in_hand(&self) {
+    fn assert_type_valid(&self) {
         self.has_value();
     }
 }
@@ -257,7 +257,7 @@ impl WritesType for u32 {
         fields.put(self)
     }
 
-    fn type_in_hand(&self) {
+    fn assert_type_valid(&self) {
         self.has_value();
     }
 }
@@ -272,7 +272,7 @@ impl WritesType for u64 {
         fields.put(self)
     }
 
-    fn type_in_hand(&self) {
+    fn assert_type_valid(&self) {
         self.has_value();
     }
 }
@@ -287,7 +287,7 @@ impl WritesType for u128 {
         fields.put(self)
     }
 
-    fn type_in_hand(&self) {
+    fn assert_type_valid(&self) {
         self.has_value();
     }
 }
@@ -302,7 +302,7 @@ impl WritesType for i8 {
         fields.put(self)
     }
 
-    fn type_in_hand(&self) {
+    fn assert_type_valid(&self) {
         self.has_value();
     }
 }
@@ -317,7 +317,7 @@ impl WritesType for i16 {
         fields.put(self)
     }
 
-    fn type_in_hand(&self) {
+    fn assert_type_valid(&self) {
         self.has_value();
     }
 }
@@ -332,7 +332,7 @@ impl WritesType for i32 {
         fields.put(self)
     }
 
-    fn type_in_hand(&self) {
+    fn assert_type_valid(&self) {
         self.has_value();
     }
 }
@@ -347,7 +347,7 @@ impl WritesType for i64 {
         fields.put(self)
     }
 
-    fn type_in_hand(&self) {
+    fn assert_type_valid(&self) {
         self.has_value();
     }
 }
@@ -362,7 +362,7 @@ impl WritesType for i128 {
         fields.put(self)
     }
 
-    fn type_in_hand(&self) {
+    fn assert_type_valid(&self) {
         self.has_value();
     }
 }
@@ -377,7 +377,7 @@ impl<'a> WritesType for Utf8String<'a> {
         fields.put(self)
     }
 
-    fn type_in_hand(&self) {
+    fn assert_type_valid(&self) {
         self.has_value();
     }
 }
@@ -392,7 +392,7 @@ impl<'a> WritesType for NumericString<'a> {
         fields.put(self)
     }
 
-    fn type_in_hand(&self) {
+    fn assert_type_valid(&self) {
         self.has_value();
     }
 }
@@ -407,7 +407,7 @@ impl<'a> WritesType for PrintableString<'a> {
         fields.put(self)
     }
 
-    fn type_in_hand(&self) {
+    fn assert_type_valid(&self) {
         self.has_value();
     }
 }
@@ -422,7 +422,7 @@ impl<'a> WritesType for Ia5String<'a> {
         fields.put(self)
     }
 
-    fn type_in_hand(&self) {
+    fn assert_type_valid(&self) {
         self.has_value();
     }
 }
@@ -437,7 +437,7 @@ impl<'a> WritesType for GraphicString<'a> {
         fields.put(self)
     }
 
-    fn type_in_hand(&self) {
+    fn assert_type_valid(&self) {
         self.has_value();
     }
 }
@@ -452,7 +452,7 @@ impl<'a> WritesType for GeneralString<'a> {
         fields.put(self)
     }
 
-    fn type_in_hand(&self) {
+    fn assert_type_valid(&self) {
         self.has_value();
     }
 }
@@ -467,7 +467,7 @@ impl<'a> WritesType for ObjectDescriptor<'a> {
         fields.put(self)
     }
 
-    fn type_in_hand(&self) {
+    fn assert_type_valid(&self) {
         self.has_value();
     }
 }
@@ -482,7 +482,7 @@ impl<'a> WritesType for TeletexString<'a> {
         fields.put(self)
     }
 
-    fn type_in_hand(&self) {
+    fn assert_type_valid(&self) {
         self.has_value();
     }
 }
@@ -497,7 +497,7 @@ impl<'a> WritesType for VideotexString<'a> {
         fields.put(self)
     }
 
-    fn type_in_hand(&self) {
+    fn assert_type_valid(&self) {
         self.has_value();
     }
 }
@@ -512,7 +512,7 @@ impl<'a> WritesType for VisibleString<'a> {
         fields.put(self)
     }
 
-    fn type_in_hand(&self) {
+    fn assert_type_valid(&self) {
         self.has_value();
     }
 }
@@ -527,7 +527,7 @@ impl<'a> WritesType for UniversalString<'a> {
         fields.put(self)
     }
 
-    fn type_in_hand(&self) {
+    fn assert_type_valid(&self) {
         self.has_value();
     }
 }
@@ -542,7 +542,7 @@ impl<'a> WritesType for BmpString<'a> {
         fields.put(self)
     }
 
-    fn type_in_hand(&self) {
+    fn assert_type_valid(&self) {
         self.has_value();
     }
 }
@@ -557,7 +557,7 @@ impl WritesType for UtcTime {
         fields.put(self)
     }
 
-    fn type_in_hand(&self) {
+    fn assert_type_valid(&self) {
         self.has_value();
     }
 }
@@ -572,7 +572,7 @@ impl WritesType for GeneralizedTime {
         fields.put(self)
     }
 
-    fn type_in_hand(&self) {
+    fn assert_type_valid(&self) {
         self.has_value();
     }
 }
@@ -587,7 +587,7 @@ impl<'a> WritesType for Oid<'a> {
         fields.put(self)
     }
 
-    fn type_in_hand(&self) {
+    fn assert_type_valid(&self) {
         self.has_value();
     }
 }

@@ -11,6 +11,7 @@
 //! The laws of the fields stand in the struct's own record ([`LawfulStruct`]), and no bound names its row. So what holds
 //! a struct, as a list, a tag or another struct, passes nothing of its fields on.
 
+pub(crate) mod any_tag;
 pub(crate) mod defaulted;
 pub(crate) mod field;
 pub(crate) mod flat;
@@ -24,7 +25,6 @@ pub(crate) mod putting;
 pub(crate) mod reading;
 pub(crate) mod row;
 pub(crate) mod types;
-pub(crate) mod untold;
 pub(crate) mod writing;
 
 ghost use Rattle.std.specs.Prelude.{◌≡◌, ℕ, List, Result};
@@ -34,11 +34,11 @@ ghost use Rattle.asn1_headers.specs.Answers.{seen};
 ghost use Rattle.asn1_rs.specs.Any.{parts_of};
 ghost use Rattle.asn1_rs.specs.Fields.{taken_in};
 ghost use Rattle.asn1_rs.specs.Laws.Lists.{constructed_checks};
-ghost use Rattle.asn1_rs.specs.Laws.Structs.Readers.{struct_exact, struct_quiet, struct_by_der_exact, struct_by_der_quiet};
+ghost use Rattle.asn1_rs.specs.Laws.Structs.Readers.{struct_exact, struct_never_oom, struct_by_der_exact, struct_by_der_never_oom};
 ghost use Rattle.asn1_rs.specs.Laws.Structs.Structs.{struct_lawful, struct_number, struct_takes_class};
 ghost use Rattle.asn1_rs.specs.Laws.Structs.Writing.{struct_lawful_writing};
 ghost use Rattle.asn1_rs.specs.Lists.{IsListOr};
-ghost use Rattle.asn1_rs.specs.Structs.{EncodingRules, Untold, by_der, by_ber, StructGives, PutsAll, fields_by, puts_of};
+ghost use Rattle.asn1_rs.specs.Structs.{EncodingRules, Unspecified, by_der, by_ber, StructGives, PutsAll, fields_by, puts_of};
 ghost use Rattle.asn1_rs.specs.Structs.Data.{LawfulStructOf, AnswersStruct, AnswersAlso, grammar_of_struct};
 ghost use Rattle.asn1_rs.specs.Traits.{DerGives, PassesAll};
 
@@ -85,8 +85,8 @@ impl ReadsBy for BerParser {
 ///             put_fields!(self, fields => place, value, error)
 ///         }
 ///
-///         fn row_in_hand(&self) {
-///             fields_in_hand!(self => place, value, error)
+///         fn assert_row_valid(&self) {
+///             assert_fields_valid!(self => place, value, error)
 ///         }
 ///     }
 ///
@@ -103,7 +103,7 @@ pub trait LawfulStruct: HasKind<Kind = FieldsKind> + Sized {
             (taken_in fields.old) (taken_in fields.new) result };
 
     /// States of a struct in hand that the values of its fields are those of their types.
-    fn row_in_hand(&self)
+    fn assert_row_valid(&self)
         ensures { laws.row.grammar.IsValue (laws.row.grammar.value (laws.as_row self.now)) };
 }
 
@@ -152,7 +152,7 @@ pub trait ReadsFields<'a>: LawfulStruct {
     /// What reading the fields may answer, with the refusal of the first field that is refused. Of a struct that leaves
     /// it out no more is said than that its reader is exact. It is that of its row:
     /// `MadeOf (λ m. (m.place, ..)) ⟦<MeasurementRow as ReadsRow<'static, DerParser>>⟧.row_gives`.
-    ghost fields_give: { List ℕ → Result Self Error → Type 0 } = { Untold };
+    ghost fields_give: { List ℕ → Result Self Error → Type 0 } = { Unspecified };
 
     /// Reads the fields, which are all of the octets. Refused as the first field that is refused, and with
     /// `TrailingOctets` where octets are left behind the last one.
@@ -164,7 +164,7 @@ pub trait ReadsFields<'a>: LawfulStruct {
 /// A struct that is read by BER, each of its fields by BER: as [`ReadsFields`], with [`row_by_ber`](row::row_by_ber).
 pub trait ReadsFieldsByBer<'a>: LawfulStruct {
     /// What reading the fields may answer, as `fields_give`.
-    ghost fields_give_by_ber: { List ℕ → Result Self Error → Type 0 } = { Untold };
+    ghost fields_give_by_ber: { List ℕ → Result Self Error → Type 0 } = { Unspecified };
 
     /// Reads the fields, which are all of the octets. Refused as the first field that is refused, and with
     /// `TrailingOctets` where octets are left behind the last one.
@@ -231,14 +231,14 @@ impl<T: LawfulStruct> LawfulItemBy<FieldsKind> for T {
         T.laws.as_row };
 
     fn value_by_kind(&self) {
-        self.row_in_hand();
+        self.assert_row_valid();
     }
 }
 
 impl<'a, T: ReadsFieldsByBer<'a>> LawfulBodyBy<'a, FieldsKind, Error> for T {
     ghost exact_by_kind = { struct_exact by_ber T.laws T.fields_give_by_ber };
 
-    ghost no_memory_by_kind = { struct_quiet by_ber T.laws T.fields_give_by_ber };
+    ghost no_memory_by_kind = { struct_never_oom by_ber T.laws T.fields_give_by_ber };
 }
 
 impl<T: LawfulStruct> LawfulCheckBy<FieldsKind> for T {
@@ -251,7 +251,7 @@ where
 {
     ghost exact_by_reader = { struct_by_der_exact T.laws T.fields_give };
 
-    ghost no_memory_by_reader = { struct_by_der_quiet T.laws T.fields_give };
+    ghost no_memory_by_reader = { struct_by_der_never_oom T.laws T.fields_give };
 }
 
 impl<T: LawfulStruct> LawfulWriteBy<FieldsKind> for T {

@@ -1,6 +1,6 @@
 //! Types whose elements are told by their tag numbers: by one, or by one of several, as those of a choice are.
 ghost use Rattle.std.specs.Prelude.{◌≡◌, ◌↔◌, ◌∷◌, [], ℕ, List, IsTrue};
-ghost use Rattle.x690.specs.Faults.{Breach};
+ghost use Rattle.x690.specs.Faults.{Violation};
 ghost use Rattle.x690.specs.Rules.{Rule};
 ghost use Rattle.asn1_headers.specs.Answers.{seen};
 ghost use Rattle.asn1_headers.specs.Header.Reading.{HeaderGives, refusal_of};
@@ -55,7 +55,7 @@ pub(crate) fn is_left_out<T: ToldByNumber>(
     octets: &[u8],
     read: ParseResult<'_, Header<'_>, Error>,
 ) -> bool
-    ensures { (rule : Rule) (refuses : Breach → Error)
+    ensures { (rule : Rule) (refuses : Violation → Error)
         → HeaderGives rule (refusal_of refuses) octets.now (seen read.entry)
         → IsTrue result ↔ BeginsApart rule (among T.numbers) octets.now }
 {

@@ -32,7 +32,7 @@ pub trait WritesType {
         ensures { PutsField type_writing self.now (taken_in fields.old) (taken_in fields.new) result };
 
     /// States of the item in hand that its value is one of the type's.
-    fn type_in_hand(&self)
+    fn assert_type_valid(&self)
         ensures { has_its_value self.now };
 }
 
@@ -49,8 +49,8 @@ pub trait WritesTypeBy<K> {
         ensures { PutsField writing_as_field self.now (taken_in fields.old) (taken_in fields.new)
             result };
 
-    /// `type_in_hand`.
-    fn in_hand_by_kind(&self)
+    /// `assert_type_valid`.
+    fn assert_valid_by_kind(&self)
         ensures { value_as_field self.now };
 }
 
@@ -64,8 +64,8 @@ impl<T: HasKind + WritesTypeBy<T::Kind>> WritesType for T {
         self.put_by_kind(fields)
     }
 
-    fn type_in_hand(&self) {
-        self.in_hand_by_kind();
+    fn assert_type_valid(&self) {
+        self.assert_valid_by_kind();
     }
 }
 
@@ -79,7 +79,7 @@ impl<K: FieldsByLaws, T: LawfulItem + ToDer> WritesTypeBy<K> for T {
         fields.put(self)
     }
 
-    fn in_hand_by_kind(&self) {
+    fn assert_valid_by_kind(&self) {
         self.has_value();
     }
 }
@@ -94,7 +94,7 @@ impl<T: LeafField + LawfulItem + ToDer> WritesTypeBy<ElementKind> for T {
         fields.put(self)
     }
 
-    fn in_hand_by_kind(&self) {
+    fn assert_valid_by_kind(&self) {
         self.has_value();
     }
 }
@@ -109,7 +109,7 @@ impl<T: LawfulStruct> WritesTypeBy<FieldsKind> for T {
         fields.put(self)
     }
 
-    fn in_hand_by_kind(&self) {
-        self.row_in_hand();
+    fn assert_valid_by_kind(&self) {
+        self.assert_row_valid();
     }
 }

@@ -181,7 +181,7 @@ pub trait BorrowedRow {
         ensures { PutsAll (puts self.now) (taken_in fields.old) (taken_in fields.new) result };
 
     /// States of the fields in hand that their values are those of their types.
-    fn each_in_hand(&self)
+    fn assert_each_valid(&self)
         ensures { have_values self.now };
 }
 
@@ -194,7 +194,7 @@ impl BorrowedRow for () {
         Ok(())
     }
 
-    fn each_in_hand(&self) {}
+    fn assert_each_valid(&self) {}
 }
 
 impl<'s, F: WritesField, R: BorrowedRow> BorrowedRow for (&'s F, R) {
@@ -215,9 +215,9 @@ impl<'s, F: WritesField, R: BorrowedRow> BorrowedRow for (&'s F, R) {
         }
     }
 
-    fn each_in_hand(&self) {
-        self.0.field_in_hand();
-        self.1.each_in_hand();
+    fn assert_each_valid(&self) {
+        self.0.assert_field_valid();
+        self.1.assert_each_valid();
     }
 }
 

@@ -30,8 +30,8 @@ ghost use Rattle.asn1_rs.specs.Structs.Types.{leaf_type, copying_type, boolean_t
 ghost use Rattle.asn1_rs.specs.Structs.Types.{numeric_type, printable_type, ascii_type, visible_type, utc_time_type};
 ghost use Rattle.asn1_rs.specs.Structs.Types.{generalized_time_type, oid_type, list_over, multiset_over, explicit_over};
 ghost use Rattle.asn1_rs.specs.Structs.Types.{implicit_type, bmp_type, universal_type};
-ghost use Rattle.asn1_rs.specs.Structs.Untold.{any_type, explicit_parser_type, implicit_parser_type, untold_field};
-ghost use Rattle.asn1_rs.specs.Structs.Untold.{optional_untold_field};
+ghost use Rattle.asn1_rs.specs.Structs.AnyTag.{any_type, explicit_parser_type, implicit_parser_type, any_tag_field};
+ghost use Rattle.asn1_rs.specs.Structs.AnyTag.{optional_any_tag_field};
 ghost use Rattle.asn1_headers.specs.Header.{identifier_of};
 
 use crate::asn1_types::any::Any;
@@ -250,29 +250,29 @@ impl<T: LawfulType> ItemType for TaggedParser<'_, Implicit, T, Error> {
 }
 
 impl FieldType for Any<'_> {
-    ghost field_laws = { untold_field any_type };
+    ghost field_laws = { any_tag_field any_type };
 }
 
 impl FieldType for Option<Any<'_>> {
-    ghost field_laws = { optional_untold_field any_type };
+    ghost field_laws = { optional_any_tag_field any_type };
 }
 
 impl<T: ItemType> FieldType for TaggedParser<'_, Explicit, T, Error> {
-    ghost field_laws = { untold_field
+    ghost field_laws = { any_tag_field
         (explicit_parser_type (λ t. identifier_of t.header) (λ t. t.inner) T.item_laws) };
 }
 
 impl<T: ItemType> FieldType for Option<TaggedParser<'_, Explicit, T, Error>> {
-    ghost field_laws = { optional_untold_field
+    ghost field_laws = { optional_any_tag_field
         (explicit_parser_type (λ t. identifier_of t.header) (λ t. t.inner) T.item_laws) };
 }
 
 impl<T: LawfulType> FieldType for TaggedParser<'_, Implicit, T, Error> {
-    ghost field_laws = { untold_field
+    ghost field_laws = { any_tag_field
         (implicit_parser_type (λ t. identifier_of t.header) (λ t. t.inner) T.type_laws) };
 }
 
 impl<T: LawfulType> FieldType for Option<TaggedParser<'_, Implicit, T, Error>> {
-    ghost field_laws = { optional_untold_field
+    ghost field_laws = { optional_any_tag_field
         (implicit_parser_type (λ t. identifier_of t.header) (λ t. t.inner) T.type_laws) };
 }

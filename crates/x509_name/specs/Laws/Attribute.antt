@@ -5,7 +5,7 @@ use Rattle.std.proofs.lemmas.List.{append_cancel_left}
 use Rattle.x690.specs.Collections.{AsWords}
 use Rattle.x690.specs.Elements.{Parts}
 use Rattle.x690.specs.Identifiers.{Identifier}
-use Rattle.x690.specs.Joined.{IsOneFront}
+use Rattle.x690.specs.Joined.{IsPrefixFree}
 use Rattle.x690.specs.Laws.Equality.{identifier_set, octets_set}
 use Rattle.x690.specs.Laws.Octets.{octets_append}
 use Rattle.x690.specs.Octets.{IsOctets}
@@ -31,7 +31,7 @@ pub any_item_lawful : IsLawfulItem any_item
 any_item_lawful = lawful_item any_element element_lawful
 
 -- Two words, of each grammar one, have one value each.
-pub two_one : {V W : Type 0} (F : List ℕ → V → Type 0) (G : List ℕ → W → Type 0) → IsOneFront F → IsOneFront G →
+pub two_one : {V W : Type 0} (F : List ℕ → V → Type 0) (G : List ℕ → W → Type 0) → IsPrefixFree F → IsPrefixFree G →
     (o : List ℕ) (v x : V) (w y : W) → AreTwo F G o v w → AreTwo F G o x y → (v ≡ x) × (w ≡ y)
 two_one F G f g o v x w y a b =
     let e : a.front ++ a.behind ≡ b.front ++ b.behind = sym a.joined ∙ b.joined in

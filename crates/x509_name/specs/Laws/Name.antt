@@ -3,10 +3,10 @@ use Rattle.std.proofs.Common.{ap, sym, lit<, true, ℕ, List, map}
 use Rattle.std.specs.Prelude.{Result, Ok, Err}
 use Rattle.std.specs.declared.alloc.Global.{Global}
 use Rattle.std.specs.declared.vec.Vec.{Vec}
-use Rattle.x690.specs.Identifiers.{IsCutIdentifier}
+use Rattle.x690.specs.Identifiers.{IsTruncatedIdentifier}
 use Rattle.x690.specs.Laws.Equality.{list_set, multiset_set}
 use Rattle.x690.specs.Elements.{IsDerElement}
-use Rattle.x690.specs.Joined.{IsOneFront}
+use Rattle.x690.specs.Joined.{IsPrefixFree}
 use Rattle.asn1_headers.specs.Answers.{Exactly}
 use Rattle.asn1_headers.specs.declared.error.Err.{Err as Refusal}
 use Rattle.asn1_headers.specs.declared.error.Error.{Error}
@@ -62,32 +62,32 @@ Rows = Result (List ℕ × Vec RelativeDistinguishedName Global) (Refusal Error)
 
 -- Reading relative names into a vector is exact.
 rows_exact : (input : List ℕ) (answer : Rows) → RowReads input answer →
-    Exactly IsCutIdentifier name_item.Der (λ v. map relative_name_value v.items) Memory input answer
+    Exactly IsTruncatedIdentifier name_item.Der (λ v. map relative_name_value v.items) Memory input answer
 rows_exact = list_by_der_exact (number_checks 16) has_items (λ v. map relative_name_value v.items) RelativeNameGives
     itself
-    relative_name_item.Der relative_name_value true IsCutIdentifier (λ items v h. ap (map relative_name_value) (sym h))
+    relative_name_item.Der relative_name_value true IsTruncatedIdentifier (λ items v h. ap (map relative_name_value) (sym h))
     relative_name_item_lawful.der_one (λ octets answer o g. relative_name_exact octets answer g)
 
 -- One word in word order alone begins an input.
-order_one : IsOneFront InWordOrder
+order_one : IsPrefixFree InWordOrder
 order_one = word_one IsDerElement NoCheck (ShapedList IsSomeSet attribute_item.Der) der_elements.one
     (list_body_one attribute_item.Der attribute_item_lawful.der_one IsSomeSet)
 
 -- The attributes of each stand in the order of their words.
 rows_in_order : (input : List ℕ) (answer : Rows) → RowReads input answer →
-    Exactly IsCutIdentifier NameInWordOrder (λ v. map listed_values v.items) Memory input answer
+    Exactly IsTruncatedIdentifier NameInWordOrder (λ v. map listed_values v.items) Memory input answer
 rows_in_order = list_by_der_exact (number_checks 16) has_items (λ v. map listed_values v.items) RelativeNameGives itself
-    InWordOrder listed_values true IsCutIdentifier (λ items v h. ap (map listed_values) (sym h)) order_one
+    InWordOrder listed_values true IsTruncatedIdentifier (λ items v h. ap (map listed_values) (sym h)) order_one
     (λ octets answer o g. in_word_order octets answer g)
 
 -- Reading a name is exact.
 pub name_exact : (input : List ℕ) (answer : Result (List ℕ × Name) (Refusal Error)) → NameGives input answer →
-    Exactly IsCutIdentifier name_item.Der name_value Memory input answer
+    Exactly IsTruncatedIdentifier name_item.Der name_value Memory input answer
 name_exact input (Ok x) g = rows_exact input (Ok (x.0, x.1.rdn_sequence)) g
 name_exact input (Err r) g = rows_exact input (Err r) g
 
 -- In a name that was read the attributes of each relative name stand in the order of their words.
 pub attributes_in_word_order : (input : List ℕ) (answer : Result (List ℕ × Name) (Refusal Error)) →
-    NameGives input answer → Exactly IsCutIdentifier NameInWordOrder rows_of Memory input answer
+    NameGives input answer → Exactly IsTruncatedIdentifier NameInWordOrder rows_of Memory input answer
 attributes_in_word_order input (Ok x) g = rows_in_order input (Ok (x.0, x.1.rdn_sequence)) g
 attributes_in_word_order input (Err r) g = rows_in_order input (Err r) g

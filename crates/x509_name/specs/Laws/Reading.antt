@@ -4,11 +4,11 @@ use Rattle.std.proofs.lemmas.List.{append_cancel_left}
 use Rattle.std.specs.Prelude.{Result, Ok, Err, IfErr, IsTrue}
 use Rattle.x690.specs.Elements.{IsDerElement}
 use Rattle.x690.specs.Faults.{DerElementFault}
-use Rattle.x690.specs.Identifiers.{Identifier, IsCutIdentifier}
-use Rattle.x690.specs.Joined.{IsOneFront}
+use Rattle.x690.specs.Identifiers.{Identifier, IsTruncatedIdentifier}
+use Rattle.x690.specs.Joined.{IsPrefixFree}
 use Rattle.asn1_headers.specs.Answers.{Exactly, Front, IsOther, TellsMemory}
 use Rattle.asn1_headers.specs.Error.{HeldIn}
-use Rattle.asn1_headers.specs.Header.Reading.{der_breach}
+use Rattle.asn1_headers.specs.Header.Reading.{der_violation}
 use Rattle.asn1_headers.specs.declared.error.Err.{Err as Refusal}
 use Rattle.asn1_headers.specs.declared.error.Error.{Error}
 use Rattle.asn1_rs.specs.Any.{IsDefiniteOr, IsTheElement, parts_of}
@@ -18,7 +18,7 @@ use Rattle.asn1_rs.specs.Laws.Any.Value.{element_checks, element_converts}
 use Rattle.asn1_rs.specs.Laws.Kinds.{other_error}
 use Rattle.asn1_rs.specs.Laws.Lists.{constructed_checks}
 use Rattle.asn1_rs.specs.Laws.Oid.{oid_checked, oid_converts}
-use Rattle.asn1_rs.specs.Laws.Readers.{der_breach_no_memory, der_elements, element_exact, element_no_memory}
+use Rattle.asn1_rs.specs.Laws.Readers.{der_violation_no_memory, der_elements, element_exact, element_no_memory}
 use Rattle.asn1_rs.specs.Laws.Readers.{front_more, none_now}
 use Rattle.asn1_rs.specs.Oid.{OidGives, oid_constraints, oid_element, oid_value}
 use Rattle.asn1_rs.specs.declared.asn1_types.any.Any.{Any}
@@ -42,19 +42,19 @@ untold m = cc
 
 -- The readers of the two parts are exact.
 pub oid_exact : (input : List ℕ) (answer : Result (List ℕ × Oid) (Refusal Error)) → OidReads input answer →
-    Exactly IsCutIdentifier oid_item.Der oid_value NoMemory input answer
-oid_exact = element_exact IsDerElement DerElementFault IsCutIdentifier der_elements der_breach oid_constraints OidGives
+    Exactly IsTruncatedIdentifier oid_item.Der oid_value NoMemory input answer
+oid_exact = element_exact IsDerElement DerElementFault IsTruncatedIdentifier der_elements der_violation oid_constraints OidGives
     itself oid_element.Check oid_element.Body oid_value false oid_item.Der oid_checked.exact oid_converts.exact
     (λ o v w. w) (λ o v w. w)
 
 pub any_exact : (input : List ℕ) (answer : Result (List ℕ × Any) (Refusal Error)) → AnyReads input answer →
-    Exactly IsCutIdentifier any_item.Der element_of NoMemory input answer
-any_exact = element_exact IsDerElement DerElementFault IsCutIdentifier der_elements der_breach IsDefiniteOr IsTheElement
+    Exactly IsTruncatedIdentifier any_item.Der element_of NoMemory input answer
+any_exact = element_exact IsDerElement DerElementFault IsTruncatedIdentifier der_elements der_violation IsDefiniteOr IsTheElement
     itself any_element.Check any_element.Body element_of false any_item.Der element_checks.exact element_converts.exact
     (λ o v w. w) (λ o v w. w)
 
 -- Where a word begins the input, each word that begins it has its value and its rest.
-pub same_front : {V : Type 0} (G : List ℕ → V → Type 0) → IsOneFront G → (input : List ℕ) (v : V) (rest : List ℕ) →
+pub same_front : {V : Type 0} (G : List ℕ → V → Type 0) → IsPrefixFree G → (input : List ℕ) (v : V) (rest : List ℕ) →
     Front G input v rest → (word more : List ℕ) (w : V) → G word w → input ≡ word ++ more → (v ≡ w) × (rest ≡ more)
 same_front G one input v rest f word more w g e =
     let s = one.one f.word word rest more v w f.fits g (sym f.is ∙ e) in (
@@ -81,7 +81,7 @@ parts_none : (content : List ℕ) (r : Refusal Error) → PartsGive content (Err
     AreTwo oid_item.Der any_item.Der content v.oid v.value → ⊥
 parts_none content r (inl g) v t = elim (oid_exact content (Err r) g) [
   | inl m ↦ untold m.0
-  | inr f ↦ none_now (IsCutIdentifier content) r oid_item.Der content f t.front t.behind v.oid t.joined t.first
+  | inr f ↦ none_now (IsTruncatedIdentifier content) r oid_item.Der content f t.front t.behind v.oid t.joined t.first
 ]
 parts_none content r (inr (behind, oid, read, later)) v t =
     let front : Front oid_item.Der content (oid_value oid) behind = oid_exact content (Ok (behind, oid)) read in
@@ -92,7 +92,7 @@ parts_none content r (inr (behind, oid, read, later)) v t =
     elim later [
       | inl g ↦ elim (any_exact behind (Err r) g) [
         | inl m ↦ untold m.0
-        | inr f ↦ none_now (IsCutIdentifier behind) r any_item.Der behind f t.behind [] v.value is t.second
+        | inr f ↦ none_now (IsTruncatedIdentifier behind) r any_item.Der behind f t.behind [] v.value is t.second
       ]
       | inr h ↦
           let value : Front any_item.Der behind (element_of h.1) h.0 = any_exact behind (Ok (h.0, h.1)) h.2 in
@@ -118,7 +118,7 @@ same_element input any rest more g word tail v w e =
 
 -- Reading an attribute is exact.
 pub attribute_exact : (input : List ℕ) (answer : Result (List ℕ × AttributeTypeAndValue) (Refusal Error)) →
-    AttributeGives input answer → Exactly IsCutIdentifier attribute_item.Der attribute_value NoMemory input answer
+    AttributeGives input answer → Exactly IsTruncatedIdentifier attribute_item.Der attribute_value NoMemory input answer
 attribute_exact input (Ok x) g =
     let any = g.0 in
     let front : Front any_item.Der input (element_of any) x.0 = any_exact input (Ok (x.0, any)) g.1 in
@@ -166,11 +166,11 @@ abbrev pub IsNoMemory : Refusal Error → Type 0
 IsNoMemory = HeldIn (IsOther itself)
 
 oid_other : (input : List ℕ) (r : Refusal Error) → OidReads input (Err r) → IsNoMemory r
-oid_other input r g = element_no_memory IsDerElement DerElementFault der_breach der_breach_no_memory oid_constraints
+oid_other input r g = element_no_memory IsDerElement DerElementFault der_violation der_violation_no_memory oid_constraints
     OidGives itself oid_checked.asks_no_memory (other_error OidGives (oid_converts.asks_no_memory refl)) input (Err r) g
 
 any_other : (input : List ℕ) (r : Refusal Error) → AnyReads input (Err r) → IsNoMemory r
-any_other input r g = element_no_memory IsDerElement DerElementFault der_breach der_breach_no_memory IsDefiniteOr
+any_other input r g = element_no_memory IsDerElement DerElementFault der_violation der_violation_no_memory IsDefiniteOr
     IsTheElement itself element_checks.asks_no_memory (other_error IsTheElement (element_converts.asks_no_memory refl))
     input (Err r) g
 

@@ -4,7 +4,7 @@ use Rattle.std.proofs.lemmas.List.Sorted.{length_permutation}
 use Rattle.std.specs.List.Sorted.{IsPermutation}
 use Rattle.x690.specs.Collections.{multiset}
 use Rattle.x690.specs.Identifiers.{Identifier}
-use Rattle.x690.specs.Joined.{IsJoined, IsOneFront}
+use Rattle.x690.specs.Joined.{IsConcatenation, IsPrefixFree}
 use Rattle.x690.specs.Laws.Collections.{joins_joined, permutation_from_multiset}
 use Rattle.x690.specs.Laws.Equality.{multiset_set}
 use Rattle.x690.specs.Laws.Joined.{joined_map, joined_values}
@@ -21,8 +21,8 @@ use Rattle.x509_name.specs.Laws.Attribute.{attribute_item_lawful, attribute_lawf
 use Rattle.x509_name.specs.RelativeName.{IsSome, IsSomeSet, relative_name_element, relative_name_item}
 
 -- Joined words of some values are some octets.
-pub some_joined : {V : Type 0} (G : List ℕ → V → Type 0) → IsOneFront G → (octets : List ℕ) (vs : List V) →
-    IsJoined G octets vs → IsSome vs → octets ≢ []
+pub some_joined : {V : Type 0} (G : List ℕ → V → Type 0) → IsPrefixFree G → (octets : List ℕ) (vs : List V) →
+    IsConcatenation G octets vs → IsSome vs → octets ≢ []
 some_joined G one octets [] j some e = some refl
 some_joined G one octets (v ∷ vs) j some e = one.some v (subst (λ (o : List ℕ). G o v) (nothing j.0 j.1 (sym j.3 ∙
     e)) j.2)
@@ -43,7 +43,7 @@ some_moved (v ∷ vs) ws p some e =
 form_body : (m : relative_name_element.Value) (i : Identifier) (c : List ℕ) → relative_name_element.Form m i c →
     relative_name_element.Body (made i c) m
 form_body m i c f =
-    let items : IsJoined attribute_item.Der c f.1.items =
+    let items : IsConcatenation attribute_item.Der c f.1.items =
     joined_map (StrictWord attribute_element.Form) attribute_item.Der (λ o v s. attribute_item_lawful.strict_der v o
     s) c
     f.1.items (joins_joined multiset IsSome (IsStrict attribute_element.Form) m c f.1) in (

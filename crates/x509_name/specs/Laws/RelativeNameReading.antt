@@ -2,8 +2,8 @@
 use Rattle.std.proofs.Common.{◌≡◌, ◌∙◌, ap, sym, refl, subst, inl, inr, true, false, ℕ, List, [], ◌∷◌, ◌++◌, map}
 use Rattle.std.specs.Prelude.{Result, Ok, Err}
 use Rattle.x690.specs.Elements.{IsDerElement}
-use Rattle.x690.specs.Identifiers.{IsCutIdentifier}
-use Rattle.x690.specs.Joined.{IsOneFront}
+use Rattle.x690.specs.Identifiers.{IsTruncatedIdentifier}
+use Rattle.x690.specs.Joined.{IsPrefixFree}
 use Rattle.asn1_headers.specs.Answers.{Exactly, Front, TellsMemory}
 use Rattle.asn1_headers.specs.declared.error.Err.{Err as Refusal}
 use Rattle.asn1_headers.specs.declared.error.Error.{Error}
@@ -36,15 +36,15 @@ abbrev set_values : SetOf AttributeTypeAndValue → List AttributeValue
 set_values s = map attribute_value (items_of s)
 
 -- One such word alone begins an input.
-set_one : IsOneFront SetWord
+set_one : IsPrefixFree SetWord
 set_one = word_one IsDerElement NoCheck (ListOf 17 attribute_item.Der) der_elements.one
     (list_body_one attribute_item.Der attribute_item_lawful.der_one (HasNumber 17))
 
 -- Reading a set of attributes is exact, and they stand in the order of their words.
 set_exact : (input : List ℕ) (answer : Result (List ℕ × SetOf AttributeTypeAndValue) (Refusal Error)) →
-    SetReads input answer → Exactly IsCutIdentifier SetWord set_values Memory input answer
+    SetReads input answer → Exactly IsTruncatedIdentifier SetWord set_values Memory input answer
 set_exact = list_by_der_exact (number_checks 17) HasItems set_values AttributeGives itself attribute_item.Der
-    attribute_value false IsCutIdentifier (λ items s h. ap (map attribute_value) (sym h)) attribute_item_lawful.der_one
+    attribute_value false IsTruncatedIdentifier (λ items s h. ap (map attribute_value) (sym h)) attribute_item_lawful.der_one
     (λ octets answer o g. attribute_exact octets answer g)
 
 -- The word of a relative name is that of a set.
@@ -76,7 +76,7 @@ values_some (x ∷ xs) some e = cc
 
 -- Reading a relative name is exact, and its attributes stand in the order of their words.
 pub in_word_order : (input : List ℕ) (answer : Result (List ℕ × RelativeDistinguishedName) (Refusal Error)) →
-    RelativeNameGives input answer → Exactly IsCutIdentifier InWordOrder listed_values Memory input answer
+    RelativeNameGives input answer → Exactly IsTruncatedIdentifier InWordOrder listed_values Memory input answer
 in_word_order input (Ok x) g =
     let front : Front SetWord input (set_values g.0) x.0 = set_exact input (Ok (x.0, g.0)) g.1 in
     let same : set_values g.0 ≡ listed_values x.1 = ap (map attribute_value) g.2 in
@@ -99,7 +99,7 @@ in_word_order input (Err r) (inr (rest, set, g, none, is)) = inr (λ more s word
 -- So reading a relative name is exact.
 pub relative_name_exact : (input : List ℕ) (answer : Result (List ℕ × RelativeDistinguishedName) (Refusal Error)) →
     RelativeNameGives input answer →
-    Exactly IsCutIdentifier relative_name_item.Der relative_name_value Memory input answer
+    Exactly IsTruncatedIdentifier relative_name_item.Der relative_name_value Memory input answer
 relative_name_exact input (Ok x) g =
     let front : Front InWordOrder input (listed_values x.1) x.0 = in_word_order input (Ok x) g in
     record {

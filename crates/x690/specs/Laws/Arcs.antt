@@ -52,12 +52,12 @@ piece_ends (suc i) (octet ∷ octets) high within last =
     ∙ ap (in_front octet) (piece_ends i octets (tail_bits i octet octets high) (omega arith) last)
 
 -- or, where there is none, with the octets
-pub piece_is_cut : (octet : ℕ) (octets : List ℕ) → HaveBit8To (length (octet ∷ octets)) (octet ∷ octets) →
+pub piece_is_truncated : (octet : ℕ) (octets : List ℕ) → HaveBit8To (length (octet ∷ octets)) (octet ∷ octets) →
     pieces_of (octet ∷ octets) ≡ (octet ∷ octets) ∷ []
-piece_is_cut octet [] high = more_piece octet [] (high 0 (omega arith))
-piece_is_cut octet (next ∷ octets) high =
+piece_is_truncated octet [] high = more_piece octet [] (high 0 (omega arith))
+piece_is_truncated octet (next ∷ octets) high =
     more_piece octet (next ∷ octets) (high 0 (omega arith))
-    ∙ ap (in_front octet) (piece_is_cut next octets (tail_bits (length (next ∷ octets)) octet (next ∷ octets) high))
+    ∙ ap (in_front octet) (piece_is_truncated next octets (tail_bits (length (next ∷ octets)) octet (next ∷ octets) high))
 
 front_joined : (octet : ℕ) (pieces : List (List ℕ)) → concat (in_front octet pieces) ≡ octet ∷ concat pieces
 front_joined octet [] = refl

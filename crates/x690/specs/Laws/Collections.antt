@@ -7,7 +7,7 @@ use Rattle.std.specs.List.Sorted.{IsPermutation}
 use Rattle.std.proofs.Common.{refl, sym, ◌∙◌, ap, subst}
 use Rattle.std.proofs.lemmas.List.Sorted.{IsPermutation-refl, IsPermutation-trans, IsPermutation-sym}
 use Rattle.std.proofs.lemmas.List.Sorted.{Contains-permutation}
-use Rattle.x690.specs.Joined.{IsOneFront, IsJoined}
+use Rattle.x690.specs.Joined.{IsPrefixFree, IsConcatenation}
 use Rattle.x690.specs.Ascending.{Ascending, arranged}
 use Rattle.x690.specs.Collections.{Multiset, multiset, HaveSame, ValueSet, value_set, AllDiffer, AnyList, AsWords}
 use Rattle.x690.specs.Collections.{AreEncodings, Joins, IsListContent, IsMultisetContent, IsSetContent}
@@ -77,7 +77,7 @@ strings_set = is_set (is_set ℕ_set)
 
 -- The strings of values, joined, are joined words of these.
 pub zip_joined : {V : Type 0} (Strict : V → List ℕ → Type 0) (vs : List V) (os : List (List ℕ)) → AllZip Strict vs os →
-    IsJoined (AsWords Strict) (concat os) vs
+    IsConcatenation (AsWords Strict) (concat os) vs
 zip_joined Strict [] [] z = refl
 zip_joined Strict [] (o ∷ os) z = absurd z
 zip_joined Strict (v ∷ vs) [] z = absurd z
@@ -96,9 +96,9 @@ module _ {V : Type 0} (R : V → List ℕ → Type 0) (one : (v : V) (o p : List
 -- the contents octets of collections of one kind
 module _ {V M : Type 0} (of : List V → M) (Each : List V → Type 0) (Strict : V → List ℕ → Type 0) where
   -- The contents octets of a collection are joined words of its items.
-  pub joins_joined : (m : M) (c : List ℕ) (j : Joins of Each Strict m c) → IsJoined (AsWords Strict) c j.items
+  pub joins_joined : (m : M) (c : List ℕ) (j : Joins of Each Strict m c) → IsConcatenation (AsWords Strict) c j.items
   joins_joined m c j =
-      subst (λ d. IsJoined (AsWords Strict) d j.items) j.joined (zip_joined Strict j.items j.strings j.each)
+      subst (λ d. IsConcatenation (AsWords Strict) d j.items) j.joined (zip_joined Strict j.items j.strings j.each)
 
   -- a collection has one content, where lists that stand for one collection have the same items
   pub joins_one_content : ((vs ws : List V) → Each vs → Each ws → of vs ≡ of ws → ∥ IsPermutation vs ws ∥₁) →
@@ -109,7 +109,7 @@ module _ {V M : Type 0} (of : List V → M) (Each : List V → Type 0) (Strict :
       g.ascend (mixed f.items g.items f.once g.once (f.are ∙ sym g.are))) ∙ g.joined
 
   -- and a content one collection
-  pub joins_one_collection : IsOneFront (AsWords Strict) → (m n : M) (c : List ℕ) → Joins of Each Strict m c →
+  pub joins_one_collection : IsPrefixFree (AsWords Strict) → (m n : M) (c : List ℕ) → Joins of Each Strict m c →
       Joins of Each Strict n c → m ≡ n
   joins_one_collection words m n c f g =
       sym f.are ∙ ap of

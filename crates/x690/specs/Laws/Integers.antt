@@ -8,7 +8,7 @@ use Rattle.std.proofs.lemmas.Bool.{cases_lt, cases_order}
 use Rattle.std.proofs.lemmas.Bool.Decides.{nat_tests}
 use Rattle.x690.specs.Octets.{IsOctets}
 use Rattle.x690.specs.Digits.{base_256_value, twos_complement_value}
-use Rattle.x690.specs.Integers.{HasSpareZeros, HasSpareOnes, HasNoLeadingZero, IsIntegerContent}
+use Rattle.x690.specs.Integers.{HasRedundantZeros, HasRedundantOnes, HasNoLeadingZero, IsIntegerContent}
 use Rattle.x690.specs.Laws.Octets.{octets_below}
 use Rattle.x690.specs.Laws.Digits.Sums.{weighted_sum_lt, same_digits}
 
@@ -46,7 +46,7 @@ value_high first others h =
     omega (arith, ints, e)
 
 -- a bound that needs the first nine bits to differ
-pub shortest_low : (first second : ℕ) (others : List ℕ) → ¬ HasSpareZeros (first ∷ second ∷ others) →
+pub shortest_low : (first second : ℕ) (others : List ℕ) → ¬ HasRedundantZeros (first ∷ second ∷ others) →
     128 * 256 ^ length others ≤ base_256_value (first ∷ second ∷ others)
 shortest_low first second others h =
     let w : 256 ^ suc (length others) ≡ 256 ^ length others * 256 = pow-suc 256 (length others) in
@@ -60,7 +60,7 @@ shortest_low first second others h =
 
 -- Where no leading ones are spare, a negative integer is too low for one octet less.
 pub shortest_high : (first second : ℕ) (others : List ℕ) → IsOctets (first ∷ second ∷ others) →
-    ¬ HasSpareOnes (first ∷ second ∷ others) →
+    ¬ HasRedundantOnes (first ∷ second ∷ others) →
     base_256_value (first ∷ second ∷ others) + 128 * 256 ^ length others < 256 ^ length (first ∷ second ∷ others)
 shortest_high first second others o h =
     let w : 256 ^ suc (length others) ≡ 256 ^ length others * 256 = pow-suc 256 (length others) in
@@ -80,14 +80,14 @@ shortest_high first second others o h =
 
 -- fewer octets have another value
 low_apart : (first second third : ℕ) (others more : List ℕ) → IsOctets (first ∷ others) → first < 128 →
-    ¬ HasSpareZeros (second ∷ third ∷ more) → length others ≤ length more →
+    ¬ HasRedundantZeros (second ∷ third ∷ more) → length others ≤ length more →
     base_256_value (first ∷ others) ≡ base_256_value (second ∷ third ∷ more) → ⊥
 low_apart first second third others more o l h few e =
     let p : 256 ^ length others ≤ 256 ^ length more = pow-le-pow_right {n = 256} (lit≤ tt) few in
     omega (arith, first_below 128 first others o l, shortest_low second third more h, p)
 
 high_apart : (first second third : ℕ) (others more : List ℕ) → 128 ≤ first → IsOctets (second ∷ third ∷ more) →
-    ¬ HasSpareOnes (second ∷ third ∷ more) → length others ≤ length more →
+    ¬ HasRedundantOnes (second ∷ third ∷ more) → length others ≤ length more →
     base_256_value (first ∷ others) + 256 ^ length (second ∷ third ∷ more) ≡
     base_256_value (second ∷ third ∷ more) + 256 ^ length (first ∷ others) → ⊥
 high_apart first second third others more l o h few e =

@@ -5,31 +5,31 @@ use Rattle.std.proofs.lemmas.List.{append_cancel_left}
 use Rattle.std.proofs.lemmas.List.Elements.{All-nil, All-cons}
 use Rattle.std.specs.List.{All, AllZip, concat}
 use Rattle.x690.specs.Octets.{IsOctets}
-use Rattle.x690.specs.Joined.{IsOneFront, NoFront, IsJoined, BeginsWithWords}
+use Rattle.x690.specs.Joined.{IsPrefixFree, NoPrefix, IsConcatenation, BeginsWithWords}
 use Rattle.x690.specs.Laws.Octets.{octets_append, below_octets}
 
 -- words of one grammar that are words of another
 pub joined_map : {V : Type 0} (G H : List ℕ → V → Type 0) → ((o : List ℕ) (v : V) → G o v → H o v) →
-    (c : List ℕ) (vs : List V) → IsJoined G c vs → IsJoined H c vs
+    (c : List ℕ) (vs : List V) → IsConcatenation G c vs → IsConcatenation H c vs
 joined_map G H f c [] j = j
 joined_map G H f c (v ∷ vs) j = (j.0, j.1, f j.0 v j.2, j.3, joined_map G H f j.1 vs j.4)
 
 -- what holds of the value of each word
 pub joined_values : {V : Type 0} (G : List ℕ → V → Type 0) (P : V → Type 0) → ((o : List ℕ) (v : V) → G o v → P v) →
-    (c : List ℕ) (vs : List V) → IsJoined G c vs → All P vs
+    (c : List ℕ) (vs : List V) → IsConcatenation G c vs → All P vs
 joined_values G P f c [] j = All-nil P
 joined_values G P f c (v ∷ vs) j = All-cons P v vs (f j.0 v j.2) (joined_values G P f j.1 vs j.4)
 
 -- Joined words are octets where the words are.
 pub joined_octets : {V : Type 0} (G : List ℕ → V → Type 0) → ((o : List ℕ) (v : V) → G o v → IsOctets o) →
-    (c : List ℕ) (vs : List V) → IsJoined G c vs → IsOctets c
+    (c : List ℕ) (vs : List V) → IsConcatenation G c vs → IsOctets c
 joined_octets G f c [] j = subst IsOctets (sym j) (below_octets [] tt)
 joined_octets G f c (v ∷ vs) j =
     subst IsOctets (sym j.3) (octets_append j.0 j.1 (f j.0 v j.2) (joined_octets G f j.1 vs j.4))
 
 -- where each value has one word, a list has one joining
 pub joined_one : {V : Type 0} (G : List ℕ → V → Type 0) → ((v : V) (o p : List ℕ) → G o v → G p v → o ≡ p) →
-    (vs : List V) (c d : List ℕ) → IsJoined G c vs → IsJoined G d vs → c ≡ d
+    (vs : List V) (c d : List ℕ) → IsConcatenation G c vs → IsConcatenation G d vs → c ≡ d
 joined_one G one [] c d i j = i ∙ sym j
 joined_one G one (v ∷ vs) c d i j =
     i.3 ∙ (ap (λ (o : List ℕ). o ++ i.1) (one v i.0 j.0 i.2 j.2)
@@ -37,7 +37,7 @@ joined_one G one (v ∷ vs) c d i j =
 
 module _ {V : Type 0} (G : List ℕ → V → Type 0) where
   -- the words of a joining
-  pub words_of : (c : List ℕ) (vs : List V) → IsJoined G c vs →
+  pub words_of : (c : List ℕ) (vs : List V) → IsConcatenation G c vs →
       (words : List (List ℕ)) × AllZip G words vs × (c ≡ concat words)
   words_of c [] j = ([], tt, j)
   words_of c (v ∷ vs) j =
@@ -46,14 +46,14 @@ module _ {V : Type 0} (G : List ℕ → V → Type 0) where
 
   -- Words in turn, joined, are joined words of their values.
   pub words_joined : (words : List (List ℕ)) (vs : List V) (c : List ℕ) → AllZip G words vs → c ≡ concat words →
-      IsJoined G c vs
+      IsConcatenation G c vs
   words_joined [] [] c a e = e
   words_joined [] (v ∷ vs) c a e = absurd a
   words_joined (w ∷ words) [] c a e = absurd a
   words_joined (w ∷ words) (v ∷ vs) c a e = (w, concat words, a.0, e, words_joined words vs (concat words) a.1 refl)
 
   -- Joined words begin with words that leave nothing.
-  pub joined_words : (c : List ℕ) (vs : List V) → IsJoined G c vs →
+  pub joined_words : (c : List ℕ) (vs : List V) → IsConcatenation G c vs →
       (words : List (List ℕ)) × BeginsWithWords G c words vs []
   joined_words c vs j =
       let t = words_of c vs j in
@@ -61,7 +61,7 @@ module _ {V : Type 0} (G : List ℕ → V → Type 0) where
 
   -- Words that leave nothing are joined words.
   pub joined_from_words : (c : List ℕ) (words : List (List ℕ)) (vs : List V) → BeginsWithWords G c words vs [] →
-      IsJoined G c vs
+      IsConcatenation G c vs
   joined_from_words c words vs b = words_joined words vs c b.each (b.is ∙ append-nil (concat words))
 
 empty_front : (w r : List ℕ) → [] ≡ w ++ r → w ≡ []
@@ -75,7 +75,7 @@ empty_row : {X : Type 0} (xs : List X) → length xs ≡ 0 → xs ≡ []
 empty_row [] e = refl
 empty_row (x ∷ xs) e = absurd (omega (arith, e))
 
-module _ {V : Type 0} (G : List ℕ → V → Type 0) (one : IsOneFront G) where
+module _ {V : Type 0} (G : List ℕ → V → Type 0) (one : IsPrefixFree G) where
   -- one word begins an input, with one value and one rest
   pub one_front : (x y r s : List ℕ) (v w : V) → G x v → G y w → x ++ r ≡ y ++ s → (x ≡ y) × (v ≡ w) × (r ≡ s)
   one_front x y r s v w a b e =
@@ -87,7 +87,7 @@ module _ {V : Type 0} (G : List ℕ → V → Type 0) (one : IsOneFront G) where
   one_value_of o v w a b = (one.one o o [] [] v w a b refl).1
 
   -- no word begins nothing
-  pub no_front_of_nothing : NoFront G []
+  pub no_front_of_nothing : NoPrefix G []
   no_front_of_nothing word rest v e g = one.some v (subst (λ (o : List ℕ). G o v) (empty_front word rest e) g)
 
   -- Of rows of words that begin one input one of no more words begins the other, and the others follow it.
@@ -126,7 +126,7 @@ module _ {V : Type 0} (G : List ℕ → V → Type 0) (one : IsOneFront G) where
 
   -- and so are rows behind each of which no word follows
   pub last_words : (ws xs : List (List ℕ)) (vs us : List V) (r s : List ℕ) → AllZip G ws vs → AllZip G xs us →
-      concat ws ++ r ≡ concat xs ++ s → NoFront G r → NoFront G s → (ws ≡ xs) × (vs ≡ us) × (r ≡ s)
+      concat ws ++ r ≡ concat xs ++ s → NoPrefix G r → NoPrefix G s → (ws ≡ xs) × (vs ≡ us) × (r ≡ s)
   last_words [] [] [] [] r s a b e n m = (refl, refl, e)
   last_words [] xs (v ∷ vs) us r s a b e n m = absurd a
   last_words (w ∷ ws) xs [] us r s a b e n m = absurd a
@@ -143,7 +143,7 @@ module _ {V : Type 0} (G : List ℕ → V → Type 0) (one : IsOneFront G) where
       (both_same w x ws xs t.0 k.0, both_same v u vs us t.1 k.1, k.2)
 
   -- octets are joined of words with one row of values
-  pub joined_same : (c d : List ℕ) (vs ws : List V) → c ≡ d → IsJoined G c vs → IsJoined G d ws → vs ≡ ws
+  pub joined_same : (c d : List ℕ) (vs ws : List V) → c ≡ d → IsConcatenation G c vs → IsConcatenation G d ws → vs ≡ ws
   joined_same c d vs ws e i j =
       let a = words_of G c vs i in
       let b = words_of G d ws j in
@@ -152,7 +152,7 @@ module _ {V : Type 0} (G : List ℕ → V → Type 0) (one : IsOneFront G) where
 
   -- where something follows joined words that begins with no word, no words are joined to the octets
   pub ends_unjoined : (c front others : List ℕ) (vs ws : List V) → c ≡ front ++ others → others ≢ [] →
-      NoFront G others → IsJoined G front vs → IsJoined G c ws → ⊥
+      NoPrefix G others → IsConcatenation G front vs → IsConcatenation G c ws → ⊥
   ends_unjoined c front others vs ws e n none i j =
       let a = words_of G front vs i in
       let b = words_of G c ws j in

@@ -26,14 +26,14 @@ not_true_false : (b : Bool) → b ≡ true → b ≡ false → ⊥
 not_true_false b p q = let e : true ≡ false = sym p ∙ q in cc
 
 -- the number is the least at least, and the first digit is not that of no weight
-tells : (least number digit spare : ℕ) → nat_le least number && not (nat_eq digit spare) ≡ true →
-    (least ≤ number) × (digit ≢ spare)
-tells least number digit spare e =
-    let b = and_not (nat_le least number) (nat_eq digit spare) e in
+tells : (least number digit redundant : ℕ) → nat_le least number && not (nat_eq digit redundant) ≡ true →
+    (least ≤ number) × (digit ≢ redundant)
+tells least number digit redundant e =
+    let b = and_not (nat_le least number) (nat_eq digit redundant) e in
     elim (leb_tells least number) [
       | inr p ↦ absurd (not_true_false (nat_le least number) b.0 p.0)
-      | inl p ↦ elim (eqb_tells digit spare) [
-        | inl q ↦ absurd (not_true_false (nat_eq digit spare) q.0 b.1)
+      | inl p ↦ elim (eqb_tells digit redundant) [
+        | inl q ↦ absurd (not_true_false (nat_eq digit redundant) q.0 b.1)
         | inr q ↦ (p.1, q.1)
       ]
     ]
@@ -41,13 +41,13 @@ tells least number digit spare e =
 both : (a b : Bool) → a ≡ true → b ≡ false → a && not b ≡ true
 both a b p q = ap (λ (c : Bool). c && not b) p ∙ ap (λ (c : Bool). not c) q
 
-told : (least number digit spare : ℕ) → least ≤ number → digit ≢ spare →
-    nat_le least number && not (nat_eq digit spare) ≡ true
-told least number digit spare l n = elim (leb_tells least number) [
+told : (least number digit redundant : ℕ) → least ≤ number → digit ≢ redundant →
+    nat_le least number && not (nat_eq digit redundant) ≡ true
+told least number digit redundant l n = elim (leb_tells least number) [
   | inr p ↦ absurd (omega (arith, p.1))
-  | inl p ↦ elim (eqb_tells digit spare) [
+  | inl p ↦ elim (eqb_tells digit redundant) [
     | inl q ↦ absurd (n q.1)
-    | inr q ↦ both (nat_le least number) (nat_eq digit spare) p.0 q.0
+    | inr q ↦ both (nat_le least number) (nat_eq digit redundant) p.0 q.0
   ]
 ]
 
@@ -120,9 +120,9 @@ shortest_length_strict (first ∷ octet ∷ octets) n (inr l) t =
     }
 
 -- a first octet that is 0 is one too many
-no_spare : (first octet n : ℕ) (octets : List ℕ) → IsStrictLength (first ∷ octet ∷ octets) n → 128 ≤ n →
+no_redundant : (first octet n : ℕ) (octets : List ℕ) → IsStrictLength (first ∷ octet ∷ octets) n → 128 ≤ n →
     IsOctets (octet ∷ octets) → base_256_value (octet ∷ octets) ≡ n → octet ≢ 0
-no_spare first octet n octets s h o e z =
+no_redundant first octet n octets s h o e z =
     let f = length_fits n (first ∷ octet ∷ octets) s.lenient in
     let w = s.fewest _ (strict_length n f).lenient in
     let none : octet * 256 ^ length octets ≡ 0 * 256 ^ length octets = ap (λ (k : ℕ). k * 256 ^ length octets) z in
@@ -143,5 +143,5 @@ strict_length_shortest o n s = long o n s s.lenient
     long (first ∷ octet ∷ octets) n s (inr l) = elim (cases_lt n 128) [
       | inl h ↦ absurd (omega (arith, s.fewest (n ∷ []) (inl (h, refl))))
       | inr h ↦ told 128 (base_256_value (octet ∷ octets)) octet 0 (omega (arith, h, l.4))
-          (no_spare first octet n octets s h l.3 l.4)
+          (no_redundant first octet n octets s h l.3 l.4)
     ]

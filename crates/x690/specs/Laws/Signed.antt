@@ -6,7 +6,7 @@ use Rattle.std.proofs.lemmas.Int.{ints}
 use Rattle.std.proofs.lemmas.Bool.{cases_lt}
 use Rattle.x690.specs.Octets.{IsOctets}
 use Rattle.x690.specs.Digits.{base_256_value, twos_complement_value}
-use Rattle.x690.specs.Integers.{HasSpareZeros, HasSpareOnes, IsShortestInteger, IsIntegerContent, unsigned_octets}
+use Rattle.x690.specs.Integers.{HasRedundantZeros, HasRedundantOnes, IsShortestInteger, IsIntegerContent, unsigned_octets}
 use Rattle.x690.specs.Signed.{complement, signed_octets, IsSigned}
 use Rattle.x690.specs.Laws.Integers.{value_low, value_high, first_below, first_above, octets_value_below, shortest_low}
 use Rattle.x690.specs.Laws.Integers.{shortest_high}
@@ -34,7 +34,7 @@ octets_say_signed (first ∷ others) size o l =
     ]
 
 -- and an integer of this size needs no more
-pub signed_needs_few : (octets : List ℕ) (size : ℕ) → IsOctets octets → ¬ HasSpareZeros octets → ¬ HasSpareOnes octets →
+pub signed_needs_few : (octets : List ℕ) (size : ℕ) → IsOctets octets → ¬ HasRedundantZeros octets → ¬ HasRedundantOnes octets →
     1 ≤ size → IsSigned size (twos_complement_value octets) → length octets ≤ size
 signed_needs_few [] size o z n some s = omega arith
 signed_needs_few (first ∷ []) size o z n some s = omega arith
@@ -136,20 +136,20 @@ pub signed_octets_count : (n : ℤ) (size : ℕ) → 1 ≤ size → IsSigned siz
 signed_octets_count n size some = (signed_octets_few n size some, signed_octets_fit n size)
 
 -- an octet in front that could be left out says nothing
-pub spare_zeros_say_nothing : (octets : List ℕ) → HasSpareZeros octets →
+pub redundant_zeros_say_nothing : (octets : List ℕ) → HasRedundantZeros octets →
     twos_complement_value (drop 1 octets) ≡ twos_complement_value octets
-spare_zeros_say_nothing [] h = absurd h
-spare_zeros_say_nothing (first ∷ []) h = absurd h
-spare_zeros_say_nothing (first ∷ second ∷ others) h =
+redundant_zeros_say_nothing [] h = absurd h
+redundant_zeros_say_nothing (first ∷ []) h = absurd h
+redundant_zeros_say_nothing (first ∷ second ∷ others) h =
     let m = ap (λ (n : ℕ). n * 256 ^ suc (length others)) h.0 in
     omega (arith, ints, value_low first (second ∷ others) (omega (arith, h.0)), value_low second others h.1, m)
 
 -- Leading ones that are spare say nothing.
-pub spare_ones_say_nothing : (octets : List ℕ) → HasSpareOnes octets →
+pub redundant_ones_say_nothing : (octets : List ℕ) → HasRedundantOnes octets →
     twos_complement_value (drop 1 octets) ≡ twos_complement_value octets
-spare_ones_say_nothing [] h = absurd h
-spare_ones_say_nothing (first ∷ []) h = absurd h
-spare_ones_say_nothing (first ∷ second ∷ others) h =
+redundant_ones_say_nothing [] h = absurd h
+redundant_ones_say_nothing (first ∷ []) h = absurd h
+redundant_ones_say_nothing (first ∷ second ∷ others) h =
     let m = ap (λ (n : ℕ). n * 256 ^ suc (length others)) h.0 in
     omega (
       arith,

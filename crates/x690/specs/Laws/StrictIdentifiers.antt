@@ -145,10 +145,10 @@ only_tag_digits number ds h s e =
     same_tag_digits ds (tag_digits number) h (tag_digits_are number)
     (omega (arith, most_digits number ds h s e, fewest_digits number ds h e)) (e ∙ sym (tag_digits_value number))
 
-no_spare : (number : ℕ) → 31 ≤ number → (hs : List ℕ) (last : ℕ) → last < 128 → (1 ≤ length hs → 0 < get_or hs 0 0) →
+no_redundant : (number : ℕ) → 31 ≤ number → (hs : List ℕ) (last : ℕ) → last < 128 → (1 ≤ length hs → 0 < get_or hs 0 0) →
     NeedsItsDigits number (map with_bit_8 hs ++ last ∷ [])
-no_spare number h [] last l f = (h, λ e. omega arith)
-no_spare number h (a ∷ hs) last l f = let p : 0 < a = f (omega arith) in (h, λ e. omega arith)
+no_redundant number h [] last l f = (h, λ e. omega arith)
+no_redundant number h (a ∷ hs) last l f = let p : 0 < a = f (omega arith) in (h, λ e. omega arith)
 
 leading_first : (number : ℕ) → 1 ≤ length (leading_digits number) → 0 < get_or (leading_digits number) 0 0
 leading_first number some = elim (cases_lt 0 (number / 128)) [
@@ -158,7 +158,7 @@ leading_first number some = elim (cases_lt 0 (number / 128)) [
 
 -- the digits of a number have no spare one
 pub tag_digits_needed : (number : ℕ) → 31 ≤ number → NeedsItsDigits number (tag_digits number)
-tag_digits_needed number h = no_spare number h (leading_digits number) (number % 128) (omega arith)
+tag_digits_needed number h = no_redundant number h (leading_digits number) (number % 128) (omega arith)
     (leading_first number)
 
 -- The strict identifier octets of a number below 31 are one.

@@ -5,7 +5,7 @@ use Rattle.x690.specs.Rules.{Rule, ber_rule}
 use Rattle.x690.specs.Elements.{IsDefiniteElement, IsStrictElement}
 use Rattle.x690.specs.Strict.{definite_parts}
 use Rattle.x690.specs.Nested.{IsElement}
-use Rattle.x690.specs.Joined.{IsOneFront}
+use Rattle.x690.specs.Joined.{IsPrefixFree}
 use Rattle.x690.specs.Collections.{AreEncodings, IsStrictOf, IsStrictWith}
 use Rattle.x690.specs.Laws.Elements.{definite_element_unique, definite_element_two}
 use Rattle.x690.specs.Laws.Nested.{nested_element_unique, nested_element_two}
@@ -13,14 +13,14 @@ use Rattle.x690.specs.Laws.StrictElements.{ber_allows_strict, strict_is_definite
 use Rattle.x690.specs.Laws.StrictElements.{strict_element_unique}
 
 -- One element of definite length alone begins an input.
-pub definite_words : (rule : Rule) → IsOneFront (IsDefiniteElement rule)
+pub definite_words : (rule : Rule) → IsPrefixFree (IsDefiniteElement rule)
 definite_words rule = record {
   one = λ x y r s p q a b e. let u = definite_element_unique rule rule x y r s p q a b e in (u.0, u.1);
   some = λ p a. let l = definite_element_two rule [] p a in absurd (omega (arith, l));
 }
 
 -- So of an element by BER.
-pub nested_words : (depth : ℕ) → IsOneFront (IsElement depth)
+pub nested_words : (depth : ℕ) → IsPrefixFree (IsElement depth)
 nested_words depth = record {
   one = λ x y r s p q a b e. let u = nested_element_unique depth x y r s p q a.0 b.0 a.1 b.1 e in (u.0, u.1);
   some = λ p a. let l = nested_element_two depth [] p a.0 a.1 in absurd (omega (arith, l));

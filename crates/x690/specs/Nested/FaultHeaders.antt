@@ -5,7 +5,7 @@ use Rattle.std.specs.List.{concat}
 use Rattle.x690.specs.Lengths.{LengthForm, definite, indefinite}
 use Rattle.x690.specs.Rules.{ber_rule}
 use Rattle.x690.specs.Elements.{BeginsWithHeader}
-use Rattle.x690.specs.Faults.{HeaderFault, IsCutContent, HasFault}
+use Rattle.x690.specs.Faults.{HeaderFault, IsTruncatedContent, HasFault}
 use Rattle.x690.specs.Nested.{IsRow, IsWord, IsOpened}
 
 -- no header begins the octets
@@ -14,7 +14,7 @@ LacksHeader = HasFault (HeaderFault ber_rule)
 
 -- a header begins the octets, and some of the contents octets that it counts are missing
 abbrev pub LacksContent : List ℕ → Type 0
-LacksContent = HasFault (IsCutContent ber_rule)
+LacksContent = HasFault (IsTruncatedContent ber_rule)
 
 -- No element of the depth begins the octets, and so many headers are read whole before the first fault. There are none
 -- where the first header has the fault. Else there is that header; behind an indefinite one there are those of the

@@ -3,7 +3,7 @@ use Rattle.x690.specs.Nested.{IsElement}
 use Rattle.asn1_headers.specs.declared.header.Header.{Header}
 use Rattle.asn1_headers.specs.Ber.{max_depth}
 use Rattle.asn1_headers.specs.Elements.{BeginsWithHeaderAndContents}
-use Rattle.asn1_headers.specs.Header.Reading.{ber_breach}
+use Rattle.asn1_headers.specs.Header.Reading.{ber_violation}
 use Rattle.asn1_rs.specs.Laws.Readers.{ber_elements}
 use Rattle.asn1_rs.specs.Laws.Any.{refusal_lasts, element_lasts}
 use Rattle.asn1_rs.proofs.ber.any_from_ber_counted.Goals as goal
@@ -16,8 +16,8 @@ returns-in-Ok-clause-same c =
     (IsElement max_depth) c.args.bytes.now h c.new.result.content.now c.in-Ok.rest.now) (sym made.header)
     (subst (λ (o : List ℕ). BeginsWithHeaderAndContents
     (IsElement max_depth) c.args.bytes.now c.in-Ok.header o c.in-Ok.rest.now) (sym made.content) read) in
-    element_lasts _ _ _ ber_elements ber_breach c.args.bytes.now (c.in-Ok.rest.now, c.new.result) begins
+    element_lasts _ _ _ ber_elements ber_violation c.args.bytes.now (c.in-Ok.rest.now, c.new.result) begins
 
 pub returns-in-Err-clause-last : goal.returns-in-Err-clause-last
 returns-in-Err-clause-last c =
-    refusal_lasts _ _ _ ber_elements ber_breach c.args.bytes.now c.in-Err.refusal c.in-Err.ensures.gives
+    refusal_lasts _ _ _ ber_elements ber_violation c.args.bytes.now c.in-Err.refusal c.in-Err.ensures.gives

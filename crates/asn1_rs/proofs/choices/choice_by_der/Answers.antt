@@ -6,4 +6,4 @@ pub returns-clause-answers : goal.returns-clause-answers
 returns-clause-answers g c =
     let arms = g.met.A.ReadsArms c.lifetimes (search rules) in
     choice_reads g.T.OfArms.as_arms g.A.ReadsArms.read_arms arms.arms_tagged g.A.ReadsArms.arms_give
-    arms.exact_arms arms.quiet_arms arms.other_arms c.args.octets.now _ c.read_arms.ensures
+    arms.exact_arms arms.never_oom_arms arms.other_arms c.args.octets.now _ c.read_arms.ensures

@@ -6,4 +6,4 @@ pub returns-clause-answers : goal.returns-clause-answers
 returns-clause-answers g c =
     let arms = g.met.A.TakesArms c.lifetimes (search rules) in
     choice_gives g.T.OfArms.as_arms g.A.TakesArms.take_arms arms.tagged_arms g.A.TakesArms.arms_take
-    arms.exact_take arms.quiet_take arms.other_take c.args.any c.take_arms.result c.take_arms.ensures
+    arms.exact_take arms.never_oom_take arms.other_take c.args.any c.take_arms.result c.take_arms.ensures

@@ -3,12 +3,12 @@ use Rattle.std.proofs.Common.{◌≡◌, ◌≢◌, ◌∙◌, ap, sym, subst, r
 use Rattle.std.proofs.Common.{append-nil, Result, Ok, Err}
 use Rattle.std.specs.Prelude.{◌||◌, IfErr, None}
 use Rattle.x690.specs.Octets.{IsOctets}
-use Rattle.x690.specs.Identifiers.{Identifier, IsCutIdentifier}
+use Rattle.x690.specs.Identifiers.{Identifier, IsTruncatedIdentifier}
 use Rattle.x690.specs.Elements.{Parts, IsDerElement}
 use Rattle.x690.specs.Faults.{DerElementFault}
 use Rattle.asn1_headers.specs.Answers.{Front, Exactly, TellsMemory, IsOther, IsFinal}
 use Rattle.asn1_headers.specs.Error.{HeldIn, Converted}
-use Rattle.asn1_headers.specs.Header.Reading.{der_breach, refusal_of}
+use Rattle.asn1_headers.specs.Header.Reading.{der_violation, refusal_of}
 use Rattle.asn1_headers.specs.declared.error.Err.{Err as Refusal}
 use Rattle.asn1_headers.specs.declared.error.Err.TheVariants.{Error as refused}
 use Rattle.asn1_headers.specs.declared.error.Error.{Error}
@@ -23,7 +23,7 @@ use Rattle.asn1_rs.specs.Grammar.{TakesBody, Checks}
 use Rattle.asn1_rs.specs.Grammar.Item.{ItemGrammar, IsLawfulItem}
 use Rattle.asn1_rs.specs.Kinds.{IsExactCheck}
 use Rattle.asn1_rs.specs.Laws.Any.{refusal_lasts, element_lasts}
-use Rattle.asn1_rs.specs.Laws.Readers.{der_elements, der_breach_no_memory, fault_no_memory, converts_itself, speaks_now}
+use Rattle.asn1_rs.specs.Laws.Readers.{der_elements, der_violation_no_memory, fault_no_memory, converts_itself, speaks_now}
 use Rattle.asn1_rs.specs.Laws.Structs.Rows.{or_neither}
 use Rattle.asn1_rs.specs.Laws.Choices.{clash, or_first, or_second, has_class_of}
 use Rattle.asn1_rs.specs.Choices.{ArmsGrammar, CheckByTag, has_tag, has_a_tag, has_a_class, no_arms, or_arms}
@@ -85,29 +85,29 @@ module _ {A B : Type 0} (class number : ℕ) (G : ItemGrammar A) (H : ArmsGramma
     }
 
   -- a refusal that is final for the arm whose tag it is
-  final_this : (i : Identifier) (is_cut : Type 0) (r : Refusal Error) (input : List ℕ) → has_tag class number i ≡ true →
-      IsFinal is_cut r G.Der input → IsFinal is_cut r (Arms.Der i) input
-  final_this i is_cut r input t n more s w rest (inl v) e d = n more s w rest v e d.1
-  final_this i is_cut r input t n more s w rest (inr v) e d = clash (has_tag class number i) t d.0
+  final_this : (i : Identifier) (is_truncated : Type 0) (r : Refusal Error) (input : List ℕ) → has_tag class number i ≡ true →
+      IsFinal is_truncated r G.Der input → IsFinal is_truncated r (Arms.Der i) input
+  final_this i is_truncated r input t n more s w rest (inl v) e d = n more s w rest v e d.1
+  final_this i is_truncated r input t n more s w rest (inr v) e d = clash (has_tag class number i) t d.0
 
-  final_other : (i : Identifier) (is_cut : Type 0) (r : Refusal Error) (input : List ℕ) →
-      has_tag class number i ≡ false → IsFinal is_cut r (H.Der i) input → IsFinal is_cut r (Arms.Der i) input
-  final_other i is_cut r input t n more s w rest (inl v) e d = clash (has_tag class number i) d.0 t
-  final_other i is_cut r input t n more s w rest (inr v) e d = n more s w rest v e d.1
+  final_other : (i : Identifier) (is_truncated : Type 0) (r : Refusal Error) (input : List ℕ) →
+      has_tag class number i ≡ false → IsFinal is_truncated r (H.Der i) input → IsFinal is_truncated r (Arms.Der i) input
+  final_other i is_truncated r input t n more s w rest (inl v) e d = clash (has_tag class number i) d.0 t
+  final_other i is_truncated r input t n more s w rest (inr v) e d = n more s w rest v e d.1
 
   module _ (reads : List ℕ → Result (List ℕ × A) (Refusal Error) → Type 0)
       (others : Identifier → List ℕ → Result (List ℕ × B) (Refusal Error) → Type 0) where
     module _ (exact : (input : List ℕ) (answer : Result (List ℕ × A) (Refusal Error)) → IsOctets input →
         reads input answer →
-        Exactly IsCutIdentifier G.Der G.value (TellsMemory G.allocates (λ (e f : Error). f ≡ e)) input answer)
+        Exactly IsTruncatedIdentifier G.Der G.value (TellsMemory G.allocates (λ (e f : Error). f ≡ e)) input answer)
         (exact_others : (i : Identifier) (input : List ℕ) (answer : Result (List ℕ × B) (Refusal Error)) →
         IsOctets input → others i input answer →
-        Exactly IsCutIdentifier (H.Der i) H.value (TellsMemory H.allocates (λ (e f : Error). f ≡ e)) input answer) where
+        Exactly IsTruncatedIdentifier (H.Der i) H.value (TellsMemory H.allocates (λ (e f : Error). f ≡ e)) input answer) where
       -- Readers of arms that are exact are so together.
       pub or_reads_exact : (i : Identifier) (input : List ℕ)
           (answer : Result (List ℕ × Or A B class) (Refusal Error)) → IsOctets input →
           OrReads (has_tag class number i) reads (others i) input answer →
-          Exactly IsCutIdentifier (Arms.Der i) Arms.value (TellsMemory Arms.allocates (λ (e f : Error). f ≡ e)) input
+          Exactly IsTruncatedIdentifier (Arms.Der i) Arms.value (TellsMemory Arms.allocates (λ (e f : Error). f ≡ e)) input
           answer
       or_reads_exact i input (Ok (rest, arm.This x)) k g =
           let f = exact input (Ok (rest, x)) k g.1 in
@@ -117,23 +117,23 @@ module _ {A B : Type 0} (class number : ℕ) (G : ItemGrammar A) (H : ArmsGramma
           record { word = f.word; fits = (g.0, f.fits); is = f.is }
       or_reads_exact i input (Err r) k (inl g) = elim (exact input (Err r) k g.1) [
         | inl m ↦ inl (or_first G.allocates H.allocates m.0, m.1)
-        | inr n ↦ inr (final_this i (IsCutIdentifier input) r input g.0 n)
+        | inr n ↦ inr (final_this i (IsTruncatedIdentifier input) r input g.0 n)
       ]
       or_reads_exact i input (Err r) k (inr g) = elim (exact_others i input (Err r) k g.1) [
         | inl m ↦ inl (or_second G.allocates H.allocates m.0, m.1)
-        | inr n ↦ inr (final_other i (IsCutIdentifier input) r input g.0 n)
+        | inr n ↦ inr (final_other i (IsTruncatedIdentifier input) r input g.0 n)
       ]
 
     -- What is so of each refusal of both is so of each of theirs.
-    pub or_reads_quiet : (P : Refusal Error → Type 0) →
+    pub or_reads_never_oom : (P : Refusal Error → Type 0) →
         ((input : List ℕ) (answer : Result (List ℕ × A) (Refusal Error)) → reads input answer → IfErr answer P) →
         ((i : Identifier) (input : List ℕ) (answer : Result (List ℕ × B) (Refusal Error)) → others i input answer →
         IfErr answer P) →
         (i : Identifier) (input : List ℕ) (answer : Result (List ℕ × Or A B class) (Refusal Error)) →
         OrReads (has_tag class number i) reads (others i) input answer → IfErr answer P
-    or_reads_quiet P first behind i input (Ok x) g = tt
-    or_reads_quiet P first behind i input (Err r) (inl g) = first input (Err r) g.1
-    or_reads_quiet P first behind i input (Err r) (inr g) = behind i input (Err r) g.1
+    or_reads_never_oom P first behind i input (Ok x) g = tt
+    or_reads_never_oom P first behind i input (Err r) (inl g) = first input (Err r) g.1
+    or_reads_never_oom P first behind i input (Err r) (inr g) = behind i input (Err r) g.1
 
     -- What is of no arm is refused at their end.
     pub or_reads_other : ((i : Identifier) (input : List ℕ) (answer : Result (List ℕ × B) (Refusal Error)) →
@@ -183,12 +183,12 @@ module _ {A B : Type 0} (class number : ℕ) (G : ItemGrammar A) (H : ArmsGramma
         body_other any t n (inl v) b = clash (has_tag class number (parts_of any).id) b.0 t
         body_other any t n (inr v) b = n v b.1
 
-    pub or_takes_quiet : (P : Error → Type 0) →
+    pub or_takes_never_oom : (P : Error → Type 0) →
         ((any : Any) (e : Error) → gives any (Err e) → P e) → ((any : Any) (e : Error) → others any (Err e) → P e) →
         (any : Any) (e : Error) →
         OrGives {class = class} (has_tag class number (parts_of any).id) (gives any) (others any) (Err e) → P e
-    or_takes_quiet P first behind any e (inl g) = first any e g.1
-    or_takes_quiet P first behind any e (inr g) = behind any e g.1
+    or_takes_never_oom P first behind any e (inl g) = first any e g.1
+    or_takes_never_oom P first behind any e (inr g) = behind any e g.1
 
     pub or_takes_other : ((any : Any) (answer : Result B Error) → has_a_tag H.tags (parts_of any).id ≡ false →
         others any answer → IsNoArm (λ (e : Error). e) (parts_of any).id.number answer) →
@@ -245,15 +245,15 @@ of_another e other = inl (e, other, refl)
 
 pub none_reads : (i : Identifier) (input : List ℕ) (answer : Result (List ℕ × Never) (Refusal Error)) → IsOctets input →
     IsNoArm refused i.number answer →
-    Exactly IsCutIdentifier (no_arms.Der i) no_arms.value (TellsMemory no_arms.allocates (λ (e f : Error). f ≡ e)) input
+    Exactly IsTruncatedIdentifier (no_arms.Der i) no_arms.value (TellsMemory no_arms.allocates (λ (e f : Error). f ≡ e)) input
     answer
 none_reads i input answer k e =
-    subst (Exactly IsCutIdentifier (no_arms.Der i) no_arms.value (TellsMemory false (λ (e f : Error). f ≡ e)) input)
+    subst (Exactly IsTruncatedIdentifier (no_arms.Der i) no_arms.value (TellsMemory false (λ (e f : Error). f ≡ e)) input)
     (sym e) (inr (λ more s w rest v h d. v))
 
-pub none_reads_quiet : (n : ℕ) (answer : Result (List ℕ × Never) (Refusal Error)) → IsNoArm refused n answer →
+pub none_reads_never_oom : (n : ℕ) (answer : Result (List ℕ × Never) (Refusal Error)) → IsNoArm refused n answer →
     IfErr answer (HeldIn (IsOther (λ (e f : Error). f ≡ e)))
-none_reads_quiet n answer e = subst (λ (a : Result (List ℕ × Never) (Refusal Error)).
+none_reads_never_oom n answer e = subst (λ (a : Result (List ℕ × Never) (Refusal Error)).
     IfErr a (HeldIn (IsOther (λ (e f : Error). f ≡ e)))) (sym e)
     (inl (UnexpectedTag None (record { 0 = n }), λ q. cc, refl))
 
@@ -263,9 +263,9 @@ pub none_takes : (any : Any) (answer : Result Never Error) → IsOctets any.cont
 none_takes any answer k e =
     subst (TakesBody no_arms.Body no_arms.value false (λ (e f : Error). f ≡ e) (parts_of any)) (sym e) (inr (λ v b. v))
 
-pub none_takes_quiet : (any : Any) (e : Error) → IsNoArm {T = Never} (λ (e : Error). e) (parts_of any).id.number (Err e) →
+pub none_takes_never_oom : (any : Any) (e : Error) → IsNoArm {T = Never} (λ (e : Error). e) (parts_of any).id.number (Err e) →
     e ≢ OutOfMemory
-none_takes_quiet any e is q = cc
+none_takes_never_oom any e is q = cc
 
 -- the check refuses each element
 abbrev pub NoArmChecks : CheckGives
@@ -295,15 +295,15 @@ module _ {S T : Type 0} (as_arms : T → S) (G : ArmsGrammar S) (m : AreTagged G
   module _ (reads : Identifier → List ℕ → Result (List ℕ × S) (Refusal Error) → Type 0)
       (exact : (i : Identifier) (input : List ℕ) (answer : Result (List ℕ × S) (Refusal Error)) → IsOctets input →
       reads i input answer →
-      Exactly IsCutIdentifier (G.Der i) G.value (TellsMemory G.allocates (λ (e f : Error). f ≡ e)) input answer)
-      (quiet : G.allocates ≡ false → (i : Identifier) (input : List ℕ)
+      Exactly IsTruncatedIdentifier (G.Der i) G.value (TellsMemory G.allocates (λ (e f : Error). f ≡ e)) input answer)
+      (never_oom : G.allocates ≡ false → (i : Identifier) (input : List ℕ)
       (answer : Result (List ℕ × S) (Refusal Error)) → reads i input answer →
       IfErr answer (HeldIn (IsOther (λ (e f : Error). f ≡ e))))
       (other : (i : Identifier) (input : List ℕ) (answer : Result (List ℕ × S) (Refusal Error)) →
       has_a_tag G.tags i ≡ false → reads i input answer → IsNoArm refused i.number answer) where
     read_exact : (input : List ℕ) (answer : Result (List ℕ × T) (Refusal Error)) → IsOctets input →
         ChoiceReads G.tags as_arms reads input answer →
-        Exactly IsCutIdentifier Choice.Der Choice.value (TellsMemory G.allocates (λ (e f : Error). f ≡ e)) input answer
+        Exactly IsTruncatedIdentifier Choice.Der Choice.value (TellsMemory G.allocates (λ (e f : Error). f ≡ e)) input answer
     read_exact input (Ok (rest, x)) k (any, behind, begins, g) =
         let f : Front (G.Der (parts_of any).id) input (G.value (as_arms x)) rest =
         exact (parts_of any).id input (Ok (rest, as_arms x)) k g in
@@ -320,9 +320,9 @@ module _ {S T : Type 0} (as_arms : T → S) (G : ArmsGrammar S) (m : AreTagged G
           is = f.is;
         }
     read_exact input (Err r) k (inl g) = inr (λ more s w rest v h d. refusal_lasts IsDerElement DerElementFault
-        IsCutIdentifier der_elements der_breach input r g more w rest d.0 s d.1 h)
+        IsTruncatedIdentifier der_elements der_violation input r g more w rest d.0 s d.1 h)
     read_exact input (Err r) k (inr (any, behind, begins, inl (e, c, is))) = inr (λ more s w rest v h d.
-        let same = element_lasts IsDerElement DerElementFault IsCutIdentifier der_elements der_breach input
+        let same = element_lasts IsDerElement DerElementFault IsTruncatedIdentifier der_elements der_violation input
         (behind, any) begins more w rest d.0 d.1 h in
         no_class (parts_of any).id c.0
         (subst (λ (p : Parts). has_a_tag G.tags p.id ≡ true) same.0 (m.der_tagged d.0.id w v d.2)))
@@ -330,41 +330,41 @@ module _ {S T : Type 0} (as_arms : T → S) (G : ArmsGrammar S) (m : AreTagged G
         elim (exact (parts_of any).id input (Err r) k g) [
           | inl t ↦ inl t
           | inr n ↦ inr (λ more s w rest v h d.
-              let same = element_lasts IsDerElement DerElementFault IsCutIdentifier der_elements der_breach input
+              let same = element_lasts IsDerElement DerElementFault IsTruncatedIdentifier der_elements der_violation input
               (behind, any) begins more w rest d.0 d.1 h in
               n more s w rest v h (subst (λ (p : Parts). G.Der p.id w v) same.0 d.2))
         ]
 
-    read_quiet : G.allocates ≡ false → (input : List ℕ) (answer : Result (List ℕ × T) (Refusal Error)) →
+    read_never_oom : G.allocates ≡ false → (input : List ℕ) (answer : Result (List ℕ × T) (Refusal Error)) →
         ChoiceReads G.tags as_arms reads input answer → IfErr answer (HeldIn (IsOther (λ (e f : Error). f ≡ e)))
-    read_quiet none input (Ok x) g = tt
-    read_quiet none input (Err r) (inl (fault, f, is)) =
-        fault_no_memory (λ (e f : Error). f ≡ e) der_breach der_breach_no_memory fault r
-        (subst (Converted (λ (e f : Error). f ≡ e) (refusal_of der_breach fault)) (sym is)
-        (converts_itself der_breach fault))
-    read_quiet none input (Err r) (inr (any, behind, begins, inl (e, c, is))) =
+    read_never_oom none input (Ok x) g = tt
+    read_never_oom none input (Err r) (inl (fault, f, is)) =
+        fault_no_memory (λ (e f : Error). f ≡ e) der_violation der_violation_no_memory fault r
+        (subst (Converted (λ (e f : Error). f ≡ e) (refusal_of der_violation fault)) (sym is)
+        (converts_itself der_violation fault))
+    read_never_oom none input (Err r) (inr (any, behind, begins, inl (e, c, is))) =
         subst (HeldIn (IsOther (λ (e f : Error). f ≡ e))) (sym is) (inl (e, class_refusal (parts_of any) e c, refl))
-    read_quiet none input (Err r) (inr (any, behind, begins, inr (c, g))) =
-        quiet none (parts_of any).id input (Err r) g
+    read_never_oom none input (Err r) (inr (any, behind, begins, inr (c, g))) =
+        never_oom none (parts_of any).id input (Err r) g
 
     read_other : (input : List ℕ) (answer : Result (List ℕ × T) (Refusal Error)) →
         ChoiceReads G.tags as_arms reads input answer → (p : Parts) (rest : List ℕ) → Front IsDerElement input p rest →
         has_a_tag G.tags p.id ≡ false → (e : Error) × NoArmRefusal G.tags p.id e × (answer ≡ Err (refused e))
     read_other input (Ok (left, x)) (any, behind, begins, g) p rest f none =
-        let same = element_lasts IsDerElement DerElementFault IsCutIdentifier der_elements der_breach input
+        let same = element_lasts IsDerElement DerElementFault IsTruncatedIdentifier der_elements der_violation input
         (behind, any) begins [] f.word rest p f.fits (append-nil input ∙ f.is) in
         let e = other (parts_of any).id input (Ok (left, as_arms x))
         (subst (λ (q : Parts). has_a_tag G.tags q.id ≡ false) same.0 none) g in
         absurd (cc)
-    read_other input (Err r) (inl g) p rest f none = absurd (refusal_lasts IsDerElement DerElementFault IsCutIdentifier
-        der_elements der_breach input r g [] f.word rest p (speaks_now (IsCutIdentifier input) r) f.fits
+    read_other input (Err r) (inl g) p rest f none = absurd (refusal_lasts IsDerElement DerElementFault IsTruncatedIdentifier
+        der_elements der_violation input r g [] f.word rest p (speaks_now (IsTruncatedIdentifier input) r) f.fits
         (append-nil input ∙ f.is))
     read_other input (Err r) (inr (any, behind, begins, inl (e, c, is))) p rest f none =
-        let same = element_lasts IsDerElement DerElementFault IsCutIdentifier der_elements der_breach input
+        let same = element_lasts IsDerElement DerElementFault IsTruncatedIdentifier der_elements der_violation input
         (behind, any) begins [] f.word rest p f.fits (append-nil input ∙ f.is) in
         (e, subst (λ (q : Parts). NoArmRefusal G.tags q.id e) (sym same.0) (inl c), ap Err is)
     read_other input (Err r) (inr (any, behind, begins, inr (c, g))) p rest f none =
-        let same = element_lasts IsDerElement DerElementFault IsCutIdentifier der_elements der_breach input
+        let same = element_lasts IsDerElement DerElementFault IsTruncatedIdentifier der_elements der_violation input
         (behind, any) begins [] f.word rest p f.fits (append-nil input ∙ f.is) in
         let e = other (parts_of any).id input (Err r)
         (subst (λ (q : Parts). has_a_tag G.tags q.id ≡ false) same.0 none) g in
@@ -380,14 +380,14 @@ module _ {S T : Type 0} (as_arms : T → S) (G : ArmsGrammar S) (m : AreTagged G
         ChoiceReads G.tags as_arms reads input answer → AnswersByDer Choice G.tags input answer
     choice_reads input answer g = record {
       exact = λ k. read_exact input answer k g;
-      no_memory = λ none. read_quiet none input answer g;
+      no_memory = λ none. read_never_oom none input answer g;
       other = read_other input answer g;
     }
 
   module _ (gives : Any → Result S Error → Type 0)
       (exact : (any : Any) (answer : Result S Error) → IsOctets any.content.now → gives any answer →
       TakesBody G.Body G.value G.allocates (λ (e f : Error). f ≡ e) (parts_of any) answer)
-      (quiet : G.allocates ≡ false → (any : Any) (e : Error) → gives any (Err e) → e ≢ OutOfMemory)
+      (never_oom : G.allocates ≡ false → (any : Any) (e : Error) → gives any (Err e) → e ≢ OutOfMemory)
       (other : (any : Any) (answer : Result S Error) → has_a_tag G.tags (parts_of any).id ≡ false → gives any answer →
       IsNoArm (λ (e : Error). e) (parts_of any).id.number answer) where
     take_exact : (any : Any) (answer : Result T Error) → IsOctets any.content.now →
@@ -397,11 +397,11 @@ module _ {S T : Type 0} (as_arms : T → S) (G : ArmsGrammar S) (m : AreTagged G
     take_exact any (Err e) k (inl c) = inr (λ v b. no_class (parts_of any).id c.0 (m.body_tagged (parts_of any) v b))
     take_exact any (Err e) k (inr (c, g)) = exact any (Err e) k g
 
-    take_quiet : G.allocates ≡ false → (any : Any) (answer : Result T Error) →
+    take_never_oom : G.allocates ≡ false → (any : Any) (answer : Result T Error) →
         ChoiceGives G.tags as_arms gives any answer → IfErr answer (λ e. e ≢ OutOfMemory)
-    take_quiet none any (Ok x) g = tt
-    take_quiet none any (Err e) (inl c) = class_refusal (parts_of any) e c
-    take_quiet none any (Err e) (inr (c, g)) = quiet none any e g
+    take_never_oom none any (Ok x) g = tt
+    take_never_oom none any (Err e) (inl c) = class_refusal (parts_of any) e c
+    take_never_oom none any (Err e) (inr (c, g)) = never_oom none any e g
 
     take_other : (any : Any) (answer : Result T Error) → ChoiceGives G.tags as_arms gives any answer →
         has_a_tag G.tags (parts_of any).id ≡ false →
@@ -418,7 +418,7 @@ module _ {S T : Type 0} (as_arms : T → S) (G : ArmsGrammar S) (m : AreTagged G
         AnswersOf Choice G.tags any answer
     choice_gives any answer g = record {
       exact = λ k. take_exact any answer k g;
-      no_memory = λ none. take_quiet none any answer g;
+      no_memory = λ none. take_never_oom none any answer g;
       other = take_other any answer g;
     }
 
@@ -429,8 +429,8 @@ choice_checks Check = record { exact = λ p answer g. g.exact; asks_no_memory = 
 -- so checks what is checked exactly
 pub checks_of : (check : CheckGives) (Check : Parts → Type 0) → IsExactCheck check Check → (p : Parts)
     (answer : Result (Unit {0}) Error) → check p answer → ChecksOf Check p answer
-checks_of check Check k p answer g = record { exact = k.exact p answer g; no_memory = quiet answer g }
+checks_of check Check k p answer g = record { exact = k.exact p answer g; no_memory = never_oom answer g }
   where
-    quiet : (answer : Result (Unit {0}) Error) → check p answer → IfErr answer (λ e. e ≢ OutOfMemory)
-    quiet (Ok x) g = tt
-    quiet (Err e) g = λ q. k.asks_no_memory p (subst (λ (x : Error). check p (Err x)) q g)
+    never_oom : (answer : Result (Unit {0}) Error) → check p answer → IfErr answer (λ e. e ≢ OutOfMemory)
+    never_oom (Ok x) g = tt
+    never_oom (Err e) g = λ q. k.asks_no_memory p (subst (λ (x : Error). check p (Err x)) q g)

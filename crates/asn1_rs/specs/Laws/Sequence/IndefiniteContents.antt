@@ -14,7 +14,7 @@ use Rattle.asn1_headers.specs.declared.error.Error.{Error}
 use Rattle.asn1_rs.specs.declared.asn1_types.any.Any.{Any}
 use Rattle.asn1_headers.specs.Answers.{Exactly, TellsMemory}
 use Rattle.asn1_rs.specs.Any.{parts_of, IsTheElement, BerElementGives}
-use Rattle.asn1_headers.specs.Header.Reading.{ber_breach}
+use Rattle.asn1_headers.specs.Header.Reading.{ber_violation}
 use Rattle.asn1_headers.specs.Ber.{max_depth, EndsWithin}
 use Rattle.asn1_rs.specs.Traits.{PassesAll}
 use Rattle.asn1_rs.specs.Grammar.{ElementWord, NoCheck, TakesBody}
@@ -52,7 +52,7 @@ elements_exact : (octets : List ℕ) (answer : Result (List ℕ × Any) (Refusal
     ElementsGive octets answer →
     Exactly EndsWithin (IsElement max_depth) parts_of (TellsMemory false IsSame) octets answer
 elements_exact octets answer o = element_exact (IsElement max_depth) (ElementFault max_depth) EndsWithin ber_elements
-    ber_breach PassesAll IsTheElement IsSame NoCheck IsParts parts_of false
+    ber_violation PassesAll IsTheElement IsSame NoCheck IsParts parts_of false
     (IsElement max_depth) passes_all element_taken element_split element_join octets answer
 
 -- The walk.

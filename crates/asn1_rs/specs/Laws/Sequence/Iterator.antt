@@ -8,9 +8,9 @@ use Rattle.std.specs.Iterator.{Yields}
 use Rattle.std.specs.Iterator.Runs.{Run, YieldsRun}
 use Rattle.x690.specs.Octets.{IsOctets}
 use Rattle.x690.specs.Laws.Octets.{octets_back}
-use Rattle.x690.specs.Joined.{NoFront, IsOneFront, IsJoined, AreJoinedWords}
+use Rattle.x690.specs.Joined.{NoPrefix, IsPrefixFree, IsConcatenation, AreConcatenatedWords}
 use Rattle.asn1_headers.specs.declared.error.Err.{Err as Refusal}
-use Rattle.asn1_headers.specs.declared.error.Err.TheVariants.{Incomplete as cut, Error as refused, Failure as failed}
+use Rattle.asn1_headers.specs.declared.error.Err.TheVariants.{Incomplete as truncated, Error as refused, Failure as failed}
 use Rattle.asn1_headers.specs.declared.error.Error.{Error}
 use Rattle.asn1_headers.specs.declared.error.Error.TheVariants as errors
 use Rattle.asn1_headers.specs.Error.{FlattenedTo}
@@ -129,11 +129,11 @@ octets_kept octets word rest o e = octets_back word rest (subst IsOctets e o)
 -- Walks by a reader that is exact by a grammar whose words begin one input in one way. Something holds of the octets
 -- that also holds of what follows a word.
 module _ {T V E : Type 0} (reads : List ℕ → Result (List ℕ × T) (Refusal E) → Type 0) (from : Error → E → Type 0)
-    (G : List ℕ → V → Type 0) (value : T → V) (allocates : Bool) (IsCut : List ℕ → Type 0)
-    (one : IsOneFront G) (Keeps : List ℕ → Type 0)
+    (G : List ℕ → V → Type 0) (value : T → V) (allocates : Bool) (IsTruncated : List ℕ → Type 0)
+    (one : IsPrefixFree G) (Keeps : List ℕ → Type 0)
     (kept : (octets word rest : List ℕ) → Keeps octets → octets ≡ word ++ rest → Keeps rest)
     (exact : (octets : List ℕ) (answer : Result (List ℕ × T) (Refusal E)) → Keeps octets → reads octets answer →
-    Exactly IsCut G value (TellsMemory allocates from) octets answer) where
+    Exactly IsTruncated G value (TellsMemory allocates from) octets answer) where
   -- the rest behind a word is shorter
   not_as_long : (octets rest : List ℕ) (v : V) → Front G octets v rest → length octets ≤ length rest → ⊥
   not_as_long octets rest v f l = shown f.word f.fits f.is
@@ -149,13 +149,13 @@ module _ {T V E : Type 0} (reads : List ℕ → Result (List ℕ × T) (Refusal 
   end_tells octets (Err r) e o g w =
       elim (exact octets (Err r) o g) [
         | inl m ↦ inl (m.0, memory_told r m.1.0 m.1.2 w m.1.1)
-        | inr f ↦ inr (none_now (IsCut octets) r G octets f)
+        | inr f ↦ inr (none_now (IsTruncated octets) r G octets f)
       ]
     where
       memory_told : (r : Refusal E) (f : E) → r ≡ refused f → FlattenedTo (λ x y. y ≡ x) from r e →
           from errors.OutOfMemory f → from errors.OutOfMemory e
       memory_told (refused x) f s t m = let u : e ≡ f = cc in subst (from errors.OutOfMemory) (sym u) m
-      memory_told (cut n) f s t m = cc
+      memory_told (truncated n) f s t m = cc
       memory_told (failed x) f s t m = cc
 
   -- A walk gives the words at the front in turn; a refusal tells that no word follows, or of want of memory.
@@ -170,11 +170,11 @@ module _ {T V E : Type 0} (reads : List ℕ → Result (List ℕ × T) (Refusal 
 
   -- octets of the kind that is kept, which are joined words
   abbrev KeepsJoined : List ℕ → Type 0
-  KeepsJoined octets = Keeps octets × AreJoinedWords G octets
+  KeepsJoined octets = Keeps octets × AreConcatenatedWords G octets
 
   -- behind the first of joined words the others are joined
-  others_joined : (octets rest : List ℕ) (v : V) → AreJoinedWords G octets → Front G octets v rest →
-      AreJoinedWords G rest
+  others_joined : (octets rest : List ℕ) (v : V) → AreConcatenatedWords G octets → Front G octets v rest →
+      AreConcatenatedWords G rest
   others_joined octets rest v ([], a, e) f = absurd (shown f.word f.fits (sym e ∙ f.is))
     where
       shown : (word : List ℕ) → G word v → [] ≡ word ++ rest → ⊥
@@ -186,12 +186,12 @@ module _ {T V E : Type 0} (reads : List ℕ → Result (List ℕ × T) (Refusal 
       (words, a.1, append_cancel_left w rest (concat words) (ap (λ (ys : List ℕ). ys ++ rest) (sym same.0) ∙ s))
 
   -- a word begins joined words, if there are any
-  begins_joined : (octets : List ℕ) → octets ≢ [] → AreJoinedWords G octets → NoFront G octets → ⊥
+  begins_joined : (octets : List ℕ) → octets ≢ [] → AreConcatenatedWords G octets → NoPrefix G octets → ⊥
   begins_joined octets n ([], a, e) none = n e
   begins_joined octets n (w ∷ words, a, e) none = none w (concat words) a.0.0 e a.0.1
 
   -- A walk over joined words gives them in turn, and tells no refusal but want of memory.
-  pub whole_walk : (answers : List (Result T E)) (content left : List ℕ) → Keeps content → AreJoinedWords G content →
+  pub whole_walk : (answers : List (Result T E)) (content left : List ℕ) → Keeps content → AreConcatenatedWords G content →
       Yields (TakesItem reads from) content answers left →
       IsWalk G value (TellsMemoryAlone (IsMemory allocates from)) content answers left
   whole_walk answers content left o a =
@@ -225,7 +225,7 @@ module _ {T V : Type 0} (G : List ℕ → V → Type 0) (value : T → V) where
   -- Octets that words make one behind another are joined words with the values of the items.
   joined_words : (words : List (List ℕ)) (items : List T) (octets : List ℕ) →
       AllZip (λ word item. G word (value item)) words items → octets ≡ concat words →
-      IsJoined G octets (map value items)
+      IsConcatenation G octets (map value items)
   joined_words [] [] octets a e = e
   joined_words [] (x ∷ items) octets a e = absurd a
   joined_words (w ∷ words) [] octets a e = absurd a
@@ -265,14 +265,14 @@ module _ {T V E : Type 0} (G : List ℕ → V → Type 0) (value : T → V) wher
 
   -- a walk that gave items alone, and left nothing
   pub items_joined : (Tells : List ℕ → E → Type 0) (content : List ℕ) (items : List T) (left : List ℕ) →
-      IsWalk G value Tells content (map Ok items) left → left ≡ [] → IsJoined G content (map value items)
+      IsWalk G value Tells content (map Ok items) left → left ≡ [] → IsConcatenation G content (map value items)
   items_joined Tells content items left w e =
       let all = all_items Tells w.others left items w.items w.ends w.answers_are w.end in
       let none : w.others ≡ [] =
       sym (subst (λ (ends : List (Result T E)). EndsWalk Tells w.others ends left) all.1 w.end) ∙ e in
       let is : content ≡ concat w.words =
       w.joined ∙ ap (λ (xs : List ℕ). concat w.words ++ xs) none ∙ append-nil (concat w.words) in
-      subst (λ (xs : List T). IsJoined G content (map value xs)) all.0
+      subst (λ (xs : List T). IsConcatenation G content (map value xs)) all.0
       (joined_words G value w.words w.items content w.values is)
 
   -- a walk that gave items, and then a refusal
@@ -286,7 +286,7 @@ module _ {T V E : Type 0} (G : List ℕ → V → Type 0) (value : T → V) wher
         front = concat w.words;
         others = w.others;
         is = w.joined;
-        joined = subst (λ (xs : List T). IsJoined G (concat w.words) (map value xs)) all.0
+        joined = subst (λ (xs : List T). IsConcatenation G (concat w.words) (map value xs)) all.0
             (joined_words G value w.words w.items (concat w.words) w.values refl);
         some = end.0;
         tells = end.1;

@@ -10,7 +10,7 @@ use Rattle.x690.specs.Identifiers.{Identifier}
 use Rattle.x690.specs.Lengths.{definite}
 use Rattle.x690.specs.Rules.{Rule, der_rule}
 use Rattle.x690.specs.Elements.{AllowsStrict}
-use Rattle.x690.specs.Joined.{IsOneFront}
+use Rattle.x690.specs.Joined.{IsPrefixFree}
 use Rattle.x690.specs.Laws.Equality.{option_set}
 use Rattle.x690.specs.Laws.Octets.{octets_back, below_octets}
 use Rattle.x690.specs.Laws.Elements.{definite_element_two, definite_element_is_octets}
@@ -29,7 +29,7 @@ use Rattle.asn1_rs.specs.Laws.Readers.{none_now}
 use Rattle.asn1_rs.specs.Laws.Words.{strict_element, one_strict, ber_values, ber_one, strict_ber}
 use Rattle.asn1_rs.specs.Optional.{IfHeld, IsLeftOut, OptionGives, option_writing, in_some}
 use Rattle.asn1_rs.specs.ToDer.{Writing, IsWritable, whole_octets}
-use Rattle.asn1_rs.specs.Structs.{EncodingRules, by_der, by_ber, header_rule, words_by, IsCutBy, FieldGrammar, item_field}
+use Rattle.asn1_rs.specs.Structs.{EncodingRules, by_der, by_ber, header_rule, words_by, IsTruncatedBy, FieldGrammar, item_field}
 use Rattle.asn1_rs.specs.Structs.{optional_field, OptionTakes, OptionStrict, BeginsWithNumber, ReadsField, Numbers, left_out_by}
 use Rattle.asn1_rs.specs.Structs.{any_number, among, is_one_of, BeginsWithOneOf, BeginsApart, left_out_at_end, FormNumbers}
 use Rattle.asn1_rs.specs.Structs.{left_out_among}
@@ -99,7 +99,7 @@ module _ {S : Type 0} (G : ItemGrammar S) (l : IsLawfulItem G) where
   word_values by_der o v w = l.der_values o v w
   word_values by_ber o v w = ber_values G l o v w
 
-  one_word : (rules : EncodingRules) → IsOneFront (words_by rules G)
+  one_word : (rules : EncodingRules) → IsPrefixFree (words_by rules G)
   one_word by_der = l.der_one
   one_word by_ber = ber_one G l
 
@@ -282,7 +282,7 @@ module _ {S : Type 0} (G : ItemGrammar S) (l : IsLawfulItem G) where
 
   module _ (rules : EncodingRules) (reads : List ℕ → Result (List ℕ × S) (Refusal Error) → Type 0)
       (exact : (octets : List ℕ) (answer : Result (List ℕ × S) (Refusal Error)) → IsOctets octets →
-      reads octets answer → Exactly (IsCutBy rules) (words_by rules G) G.value
+      reads octets answer → Exactly (IsTruncatedBy rules) (words_by rules G) G.value
       (TellsMemory G.allocates (λ (x y : Error). y ≡ x)) octets answer) where
     -- An exact reader of a type is an exact reader of its field.
     pub item_reads : (numbers : Numbers) (octets : List ℕ) (answer : Result (List ℕ × S) (Refusal Error)) →
@@ -290,7 +290,7 @@ module _ {S : Type 0} (G : ItemGrammar S) (l : IsLawfulItem G) where
     item_reads numbers octets (Ok x) k g = exact octets (Ok x) k g
     item_reads numbers octets (Err r) k g = elim (exact octets (Err r) k g) [
       | inl m ↦ inl m
-      | inr n ↦ inr (λ v rest f. none_now (IsCutBy rules octets) r (words_by rules G) octets n f.word rest v f.is f.fits)
+      | inr n ↦ inr (λ v rest f. none_now (IsTruncatedBy rules octets) r (words_by rules G) octets n f.word rest v f.is f.fits)
     ]
 
     module _ (numbers : Numbers) (LeftOut : EncodingRules → List ℕ → Type 0) where

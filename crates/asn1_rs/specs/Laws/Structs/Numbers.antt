@@ -3,7 +3,7 @@ use Rattle.std.proofs.Common.{◌≡◌, ◌∙◌, ap, sym, subst, refl, inl, i
 use Rattle.std.specs.Prelude.{◌||◌, ◌↔◌, Option, None, Result, Ok, Err, nat_eq, not}
 use Rattle.std.proofs.lemmas.Bool.{eqb-true, eq-eqb, false≢true}
 use Rattle.x690.specs.Rules.{Rule}
-use Rattle.x690.specs.Faults.{Breach}
+use Rattle.x690.specs.Faults.{Violation}
 use Rattle.x690.specs.Laws.Faults.{header_or_fault}
 use Rattle.asn1_headers.specs.declared.error.Err.{Err as Refusal}
 use Rattle.asn1_headers.specs.declared.error.Error.{Error}
@@ -28,7 +28,7 @@ is_none true h = absurd (h refl)
 is_none false h = refl
 
 -- a header that was read begins the octets
-begins_read : (rule : Rule) (refuses : Breach → Error) (octets : List ℕ) (x : List ℕ × Header) →
+begins_read : (rule : Rule) (refuses : Violation → Error) (octets : List ℕ) (x : List ℕ × Header) →
     HeaderGives rule (refusal_of refuses) octets (Ok x) → BeginsWithNumber rule x.1.tag.0 octets
 begins_read rule refuses octets x g = record {
   header = g.octets;
@@ -41,7 +41,7 @@ begins_read rule refuses octets x g = record {
 }
 
 -- it tells by its tag number whether a field of these numbers is left out
-pub read_tells_among : (rule : Rule) (refuses : Breach → Error) (octets : List ℕ) (x : List ℕ × Header) (read : ℕ)
+pub read_tells_among : (rule : Rule) (refuses : Violation → Error) (octets : List ℕ) (x : List ℕ × Header) (read : ℕ)
     (numbers : List ℕ) → read ≡ x.1.tag.0 → HeaderGives rule (refusal_of refuses) octets (Ok x) →
     IsTrue (not (is_one_of read numbers)) ↔ BeginsApart rule (among numbers) octets
 read_tells_among rule refuses octets x read numbers e g =
@@ -52,7 +52,7 @@ read_tells_among rule refuses octets x read numbers e g =
     )
 
 -- where no header could be read, it is left out at the end alone
-pub refusal_tells_among : (rule : Rule) (refuses : Breach → Error) (octets : List ℕ) (r : Refusal Error)
+pub refusal_tells_among : (rule : Rule) (refuses : Violation → Error) (octets : List ℕ) (r : Refusal Error)
     (numbers : List ℕ) → HeaderGives rule (refusal_of refuses) octets (Err r) →
     IsTrue (nat_eq (length octets) 0) ↔ BeginsApart rule (among numbers) octets
 refusal_tells_among rule refuses octets r numbers g =

@@ -3,21 +3,21 @@ use Rattle.std.proofs.Common.{◌≡◌, ◌≢◌, ◌∙◌, sym, subst, refl,
 use Rattle.std.specs.Prelude.{◌||◌, ◌↔◌, Option, Some, None, Result, Ok, Err, IfErr}
 use Rattle.std.proofs.lemmas.Bool.{false≢true}
 use Rattle.x690.specs.Octets.{IsOctets}
-use Rattle.x690.specs.Identifiers.{IsCutIdentifier}
+use Rattle.x690.specs.Identifiers.{IsTruncatedIdentifier}
 use Rattle.asn1_headers.specs.declared.error.Err.{Err as Refusal}
 use Rattle.asn1_headers.specs.declared.error.Error.{Error}
 use Rattle.asn1_headers.specs.declared.error.Error.TheVariants as errors
 use Rattle.asn1_headers.specs.Answers.{Exactly, Front, IsOther, TellsMemory}
 use Rattle.asn1_headers.specs.Error.{HeldIn}
-use Rattle.asn1_headers.specs.Header.Reading.{der_breach, ber_breach}
+use Rattle.asn1_headers.specs.Header.Reading.{der_violation, ber_violation}
 use Rattle.x690.specs.Elements.{IsDerElement}
 use Rattle.x690.specs.Faults.{DerElementFault}
 use Rattle.asn1_rs.specs.declared.asn1_types.any.Any.{Any}
 use Rattle.asn1_rs.specs.Any.{parts_of}
 use Rattle.asn1_rs.specs.Grammar.{NoCheck, TakesBody}
 use Rattle.asn1_rs.specs.Grammar.Item.{ItemGrammar, IsLawfulItem, ber_words}
-use Rattle.asn1_rs.specs.Laws.Readers.{unchecked_exact, element_no_memory, der_breach_no_memory, all_pass}
-use Rattle.asn1_rs.specs.Laws.Readers.{element_exact, der_elements, ber_elements, ber_breach_no_memory, passes_all}
+use Rattle.asn1_rs.specs.Laws.Readers.{unchecked_exact, element_no_memory, der_violation_no_memory, all_pass}
+use Rattle.asn1_rs.specs.Laws.Readers.{element_exact, der_elements, ber_elements, ber_violation_no_memory, passes_all}
 use Rattle.asn1_rs.specs.Laws.Kinds.{lawful_item, other_error}
 use Rattle.asn1_rs.specs.Laws.Any.Value.{element_lawful, element_checks, element_converts}
 use Rattle.asn1_rs.specs.Any.{IsDefiniteOr, IsTheElement}
@@ -27,7 +27,7 @@ use Rattle.asn1_headers.specs.Ber.{max_depth, EndsWithin}
 use Rattle.x690.specs.Nested.{IsElement, ElementFault}
 use Rattle.asn1_rs.specs.Optional.{IsAtEnd, OptionGives, in_some}
 use Rattle.asn1_rs.specs.Traits.{BerGives, DerGives, PassesAll}
-use Rattle.asn1_rs.specs.Structs.{EncodingRules, by_der, by_ber, any_number, left_out_at_end, words_by, IsCutBy, FieldGrammar, RowGrammar}
+use Rattle.asn1_rs.specs.Structs.{EncodingRules, by_der, by_ber, any_number, left_out_at_end, words_by, IsTruncatedBy, FieldGrammar, RowGrammar}
 use Rattle.asn1_rs.specs.Structs.{among, OptionTakes, ReadsField}
 use Rattle.asn1_rs.specs.Structs.{Numbers, item_field, optional_field, empty_row, row_of, EndGives, RowGives, StructBody, StructGives}
 use Rattle.asn1_rs.specs.Structs.Data.{AnswersField, AnswersRow, AnswersAlso, LawfulStructOf, grammar_of_struct}
@@ -48,13 +48,13 @@ pub row_answers : {S R : Type 0} (rules : EncodingRules) (F : FieldGrammar S) (G
 row_answers {S} {R} rules F G f first others field row octets answer g = record {
   exact = λ k. row_reads F G rules f first others (λ o a k h. (field o a h).exact k) (λ o a k h. (row o a h).exact k)
       octets answer k g;
-  no_memory = λ none. quiet none answer g;
+  no_memory = λ none. never_oom none answer g;
 }
   where
-    quiet : (F.allocates || G.allocates) ≡ false → (answer : Result (S × R) Error) → RowGives first others octets answer →
+    never_oom : (F.allocates || G.allocates) ≡ false → (answer : Result (S × R) Error) → RowGives first others octets answer →
         IfErr answer (λ e. e ≢ errors.OutOfMemory)
-    quiet none (Ok x) g = tt
-    quiet none (Err e) g = row_no_memory first others
+    never_oom none (Ok x) g = tt
+    never_oom none (Err e) g = row_no_memory first others
         (λ o a h. (field o a h).no_memory (or_neither F.allocates G.allocates none).0)
         (λ o e h. (row o (Err e) h).no_memory (or_neither F.allocates G.allocates none).1) octets e g
 
@@ -114,15 +114,15 @@ module _ {S : Type 0} (rules : EncodingRules) (G : ItemGrammar S) (numbers : Num
 module _ {S : Type 0} (rules : EncodingRules) (G : ItemGrammar S) (l : IsLawfulItem G)
     (reads : List ℕ → Result (List ℕ × S) (Refusal Error) → Type 0)
     (exact : (octets : List ℕ) (answer : Result (List ℕ × S) (Refusal Error)) → IsOctets octets → reads octets answer →
-    Exactly (IsCutBy rules) (words_by rules G) G.value (TellsMemory G.allocates (λ (x y : Error). y ≡ x)) octets answer)
-    (quiet : G.allocates ≡ false → (octets : List ℕ) (answer : Result (List ℕ × S) (Refusal Error)) →
+    Exactly (IsTruncatedBy rules) (words_by rules G) G.value (TellsMemory G.allocates (λ (x y : Error). y ≡ x)) octets answer)
+    (never_oom : G.allocates ≡ false → (octets : List ℕ) (answer : Result (List ℕ × S) (Refusal Error)) →
     reads octets answer → IfErr answer (HeldIn (IsOther (λ (x y : Error). y ≡ x)))) where
   -- An exact reader of a type answers as its required field does.
   pub item_answers : (numbers : Numbers) (octets : List ℕ) (answer : Result (List ℕ × S) (Refusal Error)) →
       reads octets answer → AnswersField rules (item_field numbers G) octets answer
   item_answers numbers octets answer g = record {
     exact = λ k. item_reads G l rules reads exact numbers octets answer k g;
-    no_memory = λ none. quiet none octets answer g;
+    no_memory = λ none. never_oom none octets answer g;
   }
 
   -- And its reader of options as its optional field.
@@ -131,24 +131,24 @@ module _ {S : Type 0} (rules : EncodingRules) (G : ItemGrammar S) (l : IsLawfulI
       AnswersField rules (optional_field numbers LeftOut G) octets answer
   option_answers numbers LeftOut octets answer g = record {
     exact = λ k. optional_reads G l rules reads exact numbers LeftOut octets answer k g;
-    no_memory = λ none. optional_no_memory (LeftOut rules) reads (quiet none) octets answer g;
+    no_memory = λ none. optional_no_memory (LeftOut rules) reads (never_oom none) octets answer g;
   }
 
 -- Elements of any tag number are read exactly, by DER.
 any_exact_by_der : (octets : List ℕ) (answer : Result (List ℕ × Any) (Refusal Error)) → IsOctets octets →
     DerGives IsDefiniteOr IsTheElement (λ (x y : Error). y ≡ x) octets answer →
-    Exactly IsCutIdentifier (item_grammar any_element).Der any_element.value
+    Exactly IsTruncatedIdentifier (item_grammar any_element).Der any_element.value
     (TellsMemory any_element.allocates (λ (x y : Error). y ≡ x)) octets answer
-any_exact_by_der octets answer k g = element_exact IsDerElement DerElementFault IsCutIdentifier der_elements der_breach
+any_exact_by_der octets answer k g = element_exact IsDerElement DerElementFault IsTruncatedIdentifier der_elements der_violation
     IsDefiniteOr IsTheElement (λ (x y : Error). y ≡ x) any_element.Check any_element.Body any_element.value
     any_element.allocates (item_grammar any_element).Der element_checks.exact element_converts.exact (λ o v w. w)
     (λ o v w. w) octets answer g
 
-any_quiet_by_der : any_element.allocates ≡ false → (octets : List ℕ)
+any_never_oom_by_der : any_element.allocates ≡ false → (octets : List ℕ)
     (answer : Result (List ℕ × Any) (Refusal Error)) →
     DerGives IsDefiniteOr IsTheElement (λ (x y : Error). y ≡ x) octets answer →
     IfErr answer (HeldIn (IsOther (λ (x y : Error). y ≡ x)))
-any_quiet_by_der none = element_no_memory IsDerElement DerElementFault der_breach der_breach_no_memory IsDefiniteOr
+any_never_oom_by_der none = element_no_memory IsDerElement DerElementFault der_violation der_violation_no_memory IsDefiniteOr
     IsTheElement (λ (x y : Error). y ≡ x) element_checks.asks_no_memory
     (other_error IsTheElement (element_converts.asks_no_memory none))
 
@@ -158,15 +158,15 @@ any_exact_by_ber : (octets : List ℕ) (answer : Result (List ℕ × Any) (Refus
     Exactly EndsWithin (ber_words (item_grammar any_element)) any_element.value
     (TellsMemory any_element.allocates (λ (x y : Error). y ≡ x)) octets answer
 any_exact_by_ber octets answer k g = element_exact (IsElement max_depth) (ElementFault max_depth) EndsWithin ber_elements
-    ber_breach PassesAll IsTheElement (λ (x y : Error). y ≡ x) NoCheck any_element.Body any_element.value
+    ber_violation PassesAll IsTheElement (λ (x y : Error). y ≡ x) NoCheck any_element.Body any_element.value
     any_element.allocates (ber_words (item_grammar any_element)) passes_all element_converts.exact (λ o v w. w)
     (λ o v w. w) octets answer g
 
-any_quiet_by_ber : any_element.allocates ≡ false → (octets : List ℕ)
+any_never_oom_by_ber : any_element.allocates ≡ false → (octets : List ℕ)
     (answer : Result (List ℕ × Any) (Refusal Error)) →
     BerGives IsTheElement (λ (x y : Error). y ≡ x) octets answer →
     IfErr answer (HeldIn (IsOther (λ (x y : Error). y ≡ x)))
-any_quiet_by_ber none = element_no_memory (IsElement max_depth) (ElementFault max_depth) ber_breach ber_breach_no_memory
+any_never_oom_by_ber none = element_no_memory (IsElement max_depth) (ElementFault max_depth) ber_violation ber_violation_no_memory
     PassesAll IsTheElement (λ (x y : Error). y ≡ x) all_pass
     (other_error IsTheElement (element_converts.asks_no_memory none))
 
@@ -176,26 +176,26 @@ pub any_answers_by_der : (octets : List ℕ) (answer : Result (List ℕ × Any) 
     DerGives IsDefiniteOr IsTheElement (λ (x y : Error). y ≡ x) octets answer →
     AnswersField by_der (item_field any_number (item_grammar any_element)) octets answer
 any_answers_by_der = item_answers by_der (item_grammar any_element) (lawful_item any_element element_lawful)
-    (DerGives IsDefiniteOr IsTheElement (λ (x y : Error). y ≡ x)) any_exact_by_der any_quiet_by_der any_number
+    (DerGives IsDefiniteOr IsTheElement (λ (x y : Error). y ≡ x)) any_exact_by_der any_never_oom_by_der any_number
 
 pub any_answers_by_ber : (octets : List ℕ) (answer : Result (List ℕ × Any) (Refusal Error)) →
     BerGives IsTheElement (λ (x y : Error). y ≡ x) octets answer →
     AnswersField by_ber (item_field any_number (item_grammar any_element)) octets answer
 any_answers_by_ber = item_answers by_ber (item_grammar any_element) (lawful_item any_element element_lawful)
-    (BerGives IsTheElement (λ (x y : Error). y ≡ x)) any_exact_by_ber any_quiet_by_ber any_number
+    (BerGives IsTheElement (λ (x y : Error). y ≡ x)) any_exact_by_ber any_never_oom_by_ber any_number
 
 pub any_option_answers_by_der : (octets : List ℕ) (answer : Result (List ℕ × Option Any) (Refusal Error)) →
     OptionGives IsAtEnd (DerGives IsDefiniteOr IsTheElement (λ (x y : Error). y ≡ x)) octets answer →
     AnswersField by_der (optional_field any_number left_out_at_end (item_grammar any_element)) octets answer
 any_option_answers_by_der = option_answers by_der (item_grammar any_element) (lawful_item any_element element_lawful)
-    (DerGives IsDefiniteOr IsTheElement (λ (x y : Error). y ≡ x)) any_exact_by_der any_quiet_by_der any_number
+    (DerGives IsDefiniteOr IsTheElement (λ (x y : Error). y ≡ x)) any_exact_by_der any_never_oom_by_der any_number
     left_out_at_end
 
 pub any_option_answers_by_ber : (octets : List ℕ) (answer : Result (List ℕ × Option Any) (Refusal Error)) →
     OptionGives IsAtEnd (BerGives IsTheElement (λ (x y : Error). y ≡ x)) octets answer →
     AnswersField by_ber (optional_field any_number left_out_at_end (item_grammar any_element)) octets answer
 any_option_answers_by_ber = option_answers by_ber (item_grammar any_element) (lawful_item any_element element_lawful)
-    (BerGives IsTheElement (λ (x y : Error). y ≡ x)) any_exact_by_ber any_quiet_by_ber any_number left_out_at_end
+    (BerGives IsTheElement (λ (x y : Error). y ≡ x)) any_exact_by_ber any_never_oom_by_ber any_number left_out_at_end
 
 module _ {T : Type 0} (rules : EncodingRules) (X : LawfulStructOf T) (gives : List ℕ → Result T Error → Type 0) where
   -- The conversion of an element to a struct is exact.
@@ -207,15 +207,15 @@ module _ {T : Type 0} (rules : EncodingRules) (X : LawfulStructOf T) (gives : Li
       (λ octets e k a. a.0.exact k)
 
   -- It does not report out of memory where no field allocates.
-  pub struct_quiet : (grammar_of_struct X).allocates ≡ false → (any : Any) (e : Error) →
+  pub struct_never_oom : (grammar_of_struct X).allocates ≡ false → (any : Any) (e : Error) →
       StructGives (AnswersAlso rules X gives) any (Err e) → IsOther (λ (x y : Error). y ≡ x) e
-  struct_quiet none = struct_no_memory (AnswersAlso rules X gives) (λ octets e a. a.0.no_memory none)
+  struct_never_oom none = struct_no_memory (AnswersAlso rules X gives) (λ octets e a. a.0.no_memory none)
 
 module _ {T : Type 0} (X : LawfulStructOf T) (gives : List ℕ → Result T Error → Type 0) where
   -- So is reading the element at the front by DER, and its fields.
   pub struct_by_der_exact : (input : List ℕ) (answer : Result (List ℕ × T) (Refusal Error)) → IsOctets input →
       DerGives PassesAll (StructGives (AnswersAlso by_der X gives)) (λ (x y : Error). y ≡ x) input answer →
-      Exactly IsCutIdentifier (grammar_of_struct X).Der (grammar_of_struct X).value
+      Exactly IsTruncatedIdentifier (grammar_of_struct X).Der (grammar_of_struct X).value
       (TellsMemory (grammar_of_struct X).allocates (λ (x y : Error). y ≡ x)) input answer
   struct_by_der_exact input answer k g =
       unchecked_exact (StructGives (AnswersAlso by_der X gives)) (λ (x y : Error). y ≡ x)
@@ -223,13 +223,13 @@ module _ {T : Type 0} (X : LawfulStructOf T) (gives : List ℕ → Result T Erro
       (struct_exact by_der X gives) input answer g
 
   -- And it does not report out of memory either.
-  pub struct_by_der_quiet : (grammar_of_struct X).allocates ≡ false → (input : List ℕ)
+  pub struct_by_der_never_oom : (grammar_of_struct X).allocates ≡ false → (input : List ℕ)
       (answer : Result (List ℕ × T) (Refusal Error)) →
       DerGives PassesAll (StructGives (AnswersAlso by_der X gives)) (λ (x y : Error). y ≡ x) input answer →
       IfErr answer (HeldIn (IsOther (λ (x y : Error). y ≡ x)))
-  struct_by_der_quiet none =
-      element_no_memory IsDerElement DerElementFault der_breach der_breach_no_memory PassesAll
-      (StructGives (AnswersAlso by_der X gives)) (λ (x y : Error). y ≡ x) all_pass (struct_quiet by_der X gives none)
+  struct_by_der_never_oom none =
+      element_no_memory IsDerElement DerElementFault der_violation der_violation_no_memory PassesAll
+      (StructGives (AnswersAlso by_der X gives)) (λ (x y : Error). y ≡ x) all_pass (struct_never_oom by_der X gives none)
 
 module _ {T : Type 0} (X : LawfulStructOf T) (gives : List ℕ → Result T Error → Type 0) where
   -- The reader of a struct by DER answers as its required field does.
@@ -238,7 +238,7 @@ module _ {T : Type 0} (X : LawfulStructOf T) (gives : List ℕ → Result T Erro
       AnswersField by_der (field_of (struct_type X)).grammar octets answer
   struct_answers_by_der = item_answers by_der (grammar_of_struct X) ((struct_type X).lawful refl)
       (DerGives PassesAll (StructGives (AnswersAlso by_der X gives)) (λ (x y : Error). y ≡ x))
-      (struct_by_der_exact X gives) (struct_by_der_quiet X gives) (among (16 ∷ []))
+      (struct_by_der_exact X gives) (struct_by_der_never_oom X gives) (among (16 ∷ []))
 
   -- So does its reader by BER.
   pub struct_answers_by_ber : (octets : List ℕ) (answer : Result (List ℕ × T) (Refusal Error)) →
@@ -247,10 +247,10 @@ module _ {T : Type 0} (X : LawfulStructOf T) (gives : List ℕ → Result T Erro
   struct_answers_by_ber = item_answers by_ber (grammar_of_struct X) ((struct_type X).lawful refl)
       (BerGives (StructGives (AnswersAlso by_ber X gives)) (λ (x y : Error). y ≡ x))
       (λ octets answer k. element_exact (IsElement max_depth) (ElementFault max_depth) EndsWithin ber_elements
-      ber_breach PassesAll (StructGives (AnswersAlso by_ber X gives)) (λ (x y : Error). y ≡ x) NoCheck
+      ber_violation PassesAll (StructGives (AnswersAlso by_ber X gives)) (λ (x y : Error). y ≡ x) NoCheck
       (StructBody (X.row.grammar.Takes by_ber)) (grammar_of_struct X).value (grammar_of_struct X).allocates
       (ber_words (grammar_of_struct X)) passes_all (struct_exact by_ber X gives) (λ o v w. w) (λ o v w. w) octets
       answer)
-      (λ none. element_no_memory (IsElement max_depth) (ElementFault max_depth) ber_breach ber_breach_no_memory
+      (λ none. element_no_memory (IsElement max_depth) (ElementFault max_depth) ber_violation ber_violation_no_memory
       PassesAll (StructGives (AnswersAlso by_ber X gives)) (λ (x y : Error). y ≡ x) all_pass
-      (struct_quiet by_ber X gives none)) (among (16 ∷ []))
+      (struct_never_oom by_ber X gives none)) (among (16 ∷ []))

@@ -8,7 +8,7 @@ use mathlib.Core.HLevel.{Σ_set}
 use Rattle.x690.specs.Laws.Equality.{unit_set}
 use Rattle.x690.specs.Laws.Octets.{octets_append, below_octets}
 use Rattle.asn1_headers.specs.declared.error.Err.{Err as Refusal}
-use Rattle.asn1_headers.specs.declared.error.Err.TheVariants.{Incomplete as cut, Error as refused, Failure as failed}
+use Rattle.asn1_headers.specs.declared.error.Err.TheVariants.{Incomplete as truncated, Error as refused, Failure as failed}
 use Rattle.asn1_headers.specs.declared.error.Error.{Error}
 use Rattle.asn1_headers.specs.declared.error.Error.TheVariants as errors
 use Rattle.asn1_headers.specs.Answers.{TellsMemory, IsOther}
@@ -261,7 +261,7 @@ end_no_memory octets e g q = let t = g.1 in cc
 -- what another refusal becomes is another error
 other_becomes : (r : Refusal Error) (e : Error) → HeldIn (IsOther (λ (x y : Error). y ≡ x)) r → BecomesError r e →
     e ≢ errors.OutOfMemory
-other_becomes (cut n) e h b q = cc
+other_becomes (truncated n) e h b q = cc
 other_becomes (refused x) e h b q = other x e h b q
   where
     other : (x e : Error) → IsOther (λ (x y : Error). y ≡ x) x → e ≡ x → e ≢ errors.OutOfMemory

@@ -3,18 +3,18 @@ use Rattle.std.specs.Prelude.{◌≡◌, ◌≢◌, ℕ, ◌<◌, ◌^◌, Bool,
 use Rattle.std.proofs.Common.{arith, ◌∙◌, ap, sym, subst, refl, inl, inr}
 use mathlib.Core.Logic.{∥∥₁_map}
 use Rattle.x690.specs.Octets.{IsOctets}
-use Rattle.x690.specs.Identifiers.{Identifier, IsCutIdentifier}
+use Rattle.x690.specs.Identifiers.{Identifier, IsTruncatedIdentifier}
 use Rattle.x690.specs.Rules.{der_rule, ber_rule}
 use Rattle.x690.specs.Elements.{Parts, IsDerElement}
-use Rattle.x690.specs.Faults.{Breach, Fault}
+use Rattle.x690.specs.Faults.{Violation, Fault}
 use Rattle.x690.specs.Nested.{IsElement}
 use Rattle.x690.specs.Strict.{header_octets}
 use Rattle.x690.specs.Laws.Elements.{definite_element_is_octets}
 use Rattle.x690.specs.Laws.Nested.{definite_is_nested}
 use Rattle.x690.specs.Laws.StrictElements.{der_allows_strict, ber_allows_strict}
-use Rattle.x690.specs.Joined.{IsOneFront}
+use Rattle.x690.specs.Joined.{IsPrefixFree}
 use Rattle.asn1_headers.specs.declared.error.Err.{Err as Refusal}
-use Rattle.asn1_headers.specs.declared.error.Err.TheVariants.{Incomplete as cut, Error as refused, Failure as failed}
+use Rattle.asn1_headers.specs.declared.error.Err.TheVariants.{Incomplete as truncated, Error as refused, Failure as failed}
 use Rattle.asn1_headers.specs.declared.error.Error.{Error}
 use Rattle.asn1_headers.specs.declared.error.Error.TheVariants as errors
 use Rattle.asn1_headers.specs.Answers.{Front, Exactly, TellsMemory, IsOther}
@@ -27,13 +27,13 @@ use Rattle.asn1_rs.specs.Grammar.{Checks, made}
 use Rattle.asn1_rs.specs.Grammar.Form.{IsOneForm, IsOneValue, FitsElement, HasValues, IsStrict, WritesByValue}
 use Rattle.asn1_rs.specs.Grammar.Form.{WritesForm, header_of, HasForm}
 use Rattle.asn1_rs.specs.Grammar.Item.{ItemGrammar, IsLawfulItem, ber_words}
-use Rattle.asn1_headers.specs.Header.Reading.{der_breach, refusal_of}
+use Rattle.asn1_headers.specs.Header.Reading.{der_violation, refusal_of}
 use Rattle.asn1_rs.specs.Kinds.{IsExactCheck}
 use Rattle.asn1_rs.specs.Laws.Any.{refusal_lasts, element_lasts}
 use Rattle.asn1_rs.specs.Laws.Checks.{before_is, has_number_is, is_constructed_is, is_counted_is}
 use Rattle.asn1_rs.specs.Laws.Forms.{strict_written, both_by_value, whole_writable}
 use Rattle.asn1_rs.specs.Laws.Readers.{AreElements, none_now, front_more, speaks_fault, fault_no_memory, speaks_now}
-use Rattle.asn1_rs.specs.Laws.Readers.{converts_itself, der_breach_no_memory, der_elements}
+use Rattle.asn1_rs.specs.Laws.Readers.{converts_itself, der_violation_no_memory, der_elements}
 use Rattle.asn1_rs.specs.Laws.Tagged.{has_class_is, number_is, own_class, check_no_memory, under_tag, whole_front}
 use Rattle.asn1_rs.specs.Laws.Tagged.{front_whole, none_left, whole_is, whole_refused, whole_no_memory}
 use Rattle.asn1_rs.specs.Laws.Words.{word_one, strict_element, one_strict, strict_apart, strict_der_word, ber_one}
@@ -59,12 +59,12 @@ module _ {V : Type 0} (class number : ℕ) where
   explicit_begins G p v b = record { tag = b.tag; rest = []; inner = whole_front G p.content v b.inner }
 
   -- An element has one value under the tag, where one word alone begins its contents octets.
-  explicit_one_body : (G : List ℕ → V → Type 0) → IsOneFront G → IsOneBody (ExplicitBody class number G)
+  explicit_one_body : (G : List ℕ → V → Type 0) → IsPrefixFree G → IsOneBody (ExplicitBody class number G)
   explicit_one_body G one p v w a b =
       (one.one a.inner.word b.inner.word a.rest b.rest v w a.inner.fits b.inner.fits (sym a.inner.is ∙ b.inner.is)).1
 
   -- So has one whose contents octets are a word.
-  explicit_one_whole : (G : List ℕ → V → Type 0) → IsOneFront G → IsOneBody (ExplicitWhole class number G)
+  explicit_one_whole : (G : List ℕ → V → Type 0) → IsPrefixFree G → IsOneBody (ExplicitWhole class number G)
   explicit_one_whole G one p v w a b =
       explicit_one_body G one p v w (explicit_begins G p v a) (explicit_begins G p w b)
 
@@ -217,14 +217,14 @@ module _ {S T V : Type 0} (class number : ℕ) (inner : T → S) (value : S → 
 memory_told : {E : Type 0} (from : Error → E → Type 0) (r : Refusal E) (e f : E) → r ≡ refused f →
     FlattenedTo (λ x y. y ≡ x) from r e → from errors.OutOfMemory f → from errors.OutOfMemory e
 memory_told from (refused x) e f s t m = let u : e ≡ f = cc in subst (from errors.OutOfMemory) (sym u) m
-memory_told from (cut n) e f s t m = cc
+memory_told from (truncated n) e f s t m = cc
 memory_told from (failed x) e f s t m = cc
 
 module _ {T V W E : Type 0} (class number : ℕ) (inner : W → T)
     (reads : List ℕ → Result (List ℕ × T) (Refusal E) → Type 0) (from : Error → E → Type 0) (G : List ℕ → V → Type 0)
-    (value : T → V) (allocates : Bool) (IsCut : List ℕ → Type 0)
+    (value : T → V) (allocates : Bool) (IsTruncated : List ℕ → Type 0)
     (exact : (octets : List ℕ) (answer : Result (List ℕ × T) (Refusal E)) → IsOctets octets → reads octets answer →
-    Exactly IsCut G value (TellsMemory allocates from) octets answer) where
+    Exactly IsTruncated G value (TellsMemory allocates from) octets answer) where
   -- the conversion is exact
   pub explicit_takes : (p : Parts) (answer : Result W E) → IsOctets p.content →
       ExplicitTakes class number inner reads from p answer →
@@ -235,7 +235,7 @@ module _ {T V W E : Type 0} (class number : ℕ) (inner : W → T)
   explicit_takes p (Err e) o (inr (h, (r, g, f))) =
       elim (exact p.content (Err r) o g) [
         | inl m ↦ inl (m.0, memory_told from r e m.1.0 m.1.2 f m.1.1)
-        | inr n ↦ inr (λ v b. none_now (IsCut p.content) r G p.content n b.inner.word b.rest v b.inner.is b.inner.fits)
+        | inr n ↦ inr (λ v b. none_now (IsTruncated p.content) r G p.content n b.inner.word b.rest v b.inner.is b.inner.fits)
       ]
 
   -- the words by DER of a value under the tag
@@ -251,9 +251,9 @@ module _ {T V W E : Type 0} (class number : ℕ) (inner : W → T)
       subst (λ (q : Parts). ExplicitWhole class number G q v) (sym same.1) d.3
 
   -- its own reader by DER is exact, where one word alone begins an input
-  pub explicit_der_exact : IsOneFront G → (input : List ℕ) (answer : Result (List ℕ × W) (Refusal E)) →
+  pub explicit_der_exact : IsPrefixFree G → (input : List ℕ) (answer : Result (List ℕ × W) (Refusal E)) →
       ExplicitGives class number inner reads from input answer →
-      Exactly IsCutIdentifier Word (λ w. value (inner w)) (TellsMemory allocates from) input answer
+      Exactly IsTruncatedIdentifier Word (λ w. value (inner w)) (TellsMemory allocates from) input answer
   explicit_der_exact one input (Ok x) (p, f, t) = record {
     word = f.word;
     fits = (
@@ -262,7 +262,7 @@ module _ {T V W E : Type 0} (class number : ℕ) (inner : W → T)
       tt,
       record {
         tag = t.0;
-        inner = whole_is reads from G value allocates IsCut exact p.content (inner x.1)
+        inner = whole_is reads from G value allocates IsTruncated exact p.content (inner x.1)
             (der_elements.possible f.word p f.fits).content t.1;
       },
     );
@@ -270,13 +270,13 @@ module _ {T V W E : Type 0} (class number : ℕ) (inner : W → T)
   }
   explicit_der_exact one input (Err r) (inl (fault, f, c)) = inr (λ more s w rest v e d.
       der_elements.final input more w rest d.0 fault f
-      (speaks_fault der_breach from fault r (IsCutIdentifier input) more (der_elements.counts input fault f) c s)
+      (speaks_fault der_violation from fault r (IsTruncatedIdentifier input) more (der_elements.counts input fault f) c s)
       d.1 e)
   explicit_der_exact one input (Err r) (inr (p, rest, f, inl t)) = inr (λ more s w tail v h d.
       let b = word_body input more rest w tail p v f h d in
       (tag_checks_are class number).apart p t.0 b.tag t.1)
   explicit_der_exact one input (Err r) (inr (p, rest, f, inr t)) =
-      elim (whole_refused reads from G value allocates IsCut exact one p.content r
+      elim (whole_refused reads from G value allocates IsTruncated exact one p.content r
       (der_elements.possible f.word p f.fits).content t.1) [
         | inl m ↦ inl m
         | inr none ↦ inr (λ more s w tail v h d. none v (word_body input more rest w tail p v f h d).inner)
@@ -285,7 +285,7 @@ module _ {T V W E : Type 0} (class number : ℕ) (inner : W → T)
 -- what tells of another refusal, told as an error
 told_no_memory : {E : Type 0} (from : Error → E → Type 0) (r : Refusal E) (e : E) → HeldIn (IsOther from) r →
     FlattenedTo (λ x y. y ≡ x) from r e → IsOther from e
-told_no_memory from (cut n) e h f = inl (errors.Incomplete n, λ q. cc, f)
+told_no_memory from (truncated n) e h f = inl (errors.Incomplete n, λ q. cc, f)
 told_no_memory from (refused x) e h f = subst (IsOther from) (sym f) h
 told_no_memory from (failed x) e h f = subst (IsOther from) (sym f) h
 
@@ -306,7 +306,7 @@ module _ {T W E : Type 0} (class number : ℕ) (inner : W → T) (reads : List �
       ExplicitGives class number inner reads from input answer → IfErr answer (HeldIn (IsOther from))
   explicit_der_no_memory input (Ok x) g = tt
   explicit_der_no_memory input (Err r) (inl (fault, f, c)) =
-      fault_no_memory from der_breach der_breach_no_memory fault r c
+      fault_no_memory from der_violation der_violation_no_memory fault r c
   explicit_der_no_memory input (Err r) (inr (p, rest, f, inl t)) = subst (HeldIn (IsOther from)) (sym t.2.2)
       (check_no_memory (tag_checks class number) (tag_checks_are class number) from p t.0 t.2.0 t.1 t.2.1)
   explicit_der_no_memory input (Err r) (inr (p, rest, f, inr t)) =
@@ -320,9 +320,9 @@ none_is_memory (inl (f, other, e)) = other (sym e)
 none_is_memory (inr other) = other refl
 
 -- the check is exact, where that of the value is
-module _ (ElementOf : List ℕ → Parts → Type 0) (FaultOf : List ℕ → Fault → Type 0) (IsCut : List ℕ → Type 0)
-    (elements : AreElements ElementOf FaultOf IsCut) (refuses : Breach → Error)
-    (other : (breach : Breach) → refuses breach ≢ errors.OutOfMemory)
+module _ (ElementOf : List ℕ → Parts → Type 0) (FaultOf : List ℕ → Fault → Type 0) (IsTruncated : List ℕ → Type 0)
+    (elements : AreElements ElementOf FaultOf IsTruncated) (refuses : Violation → Error)
+    (other : (violation : Violation) → refuses violation ≢ errors.OutOfMemory)
     (check : CheckGives) (Check : Parts → Type 0) (inner : IsExactCheck check Check) where
   -- what the check of the value under the tag may answer
   abbrev Gives : CheckGives
@@ -343,10 +343,10 @@ module _ (ElementOf : List ℕ → Parts → Type 0) (FaultOf : List ℕ → Fau
       exact p (Ok x) (counted, (Err r, g, none)) = absurd none
       exact p (Err e) (inl b) = λ c. is_counted_is.apart p e c.counted b
       exact p (Err e) (inr (m, (Err r, g, f))) = λ c.
-          refusal_lasts ElementOf FaultOf IsCut elements refuses p.content r g [] p.content [] c.parts
-          (speaks_now (IsCut p.content) r) c.inner refl
+          refusal_lasts ElementOf FaultOf IsTruncated elements refuses p.content r g [] p.content [] c.parts
+          (speaks_now (IsTruncated p.content) r) c.inner refl
       exact p (Err e) (inr (m, (Ok y, g, inl b))) = λ c.
-          let same = element_lasts ElementOf FaultOf IsCut elements refuses p.content
+          let same = element_lasts ElementOf FaultOf IsTruncated elements refuses p.content
           y g [] p.content [] c.parts c.inner refl in
           inner.exact (parts_of y.1) (Err e) b (subst Check same.0 c.checked)
       exact p (Err e) (inr (m, (Ok y, g, inr (passes, some, told)))) = λ c.

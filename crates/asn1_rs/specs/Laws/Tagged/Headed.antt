@@ -5,7 +5,7 @@ use mathlib.Core.Logic.{∥∥₁_map}
 use Rattle.x690.specs.Identifiers.{Identifier}
 use Rattle.x690.specs.Elements.{Parts, ArePossible, IsDerElement}
 use Rattle.x690.specs.Rules.{der_rule}
-use Rattle.x690.specs.Joined.{IsOneFront}
+use Rattle.x690.specs.Joined.{IsPrefixFree}
 use Rattle.x690.specs.Strict.{header_octets}
 use Rattle.x690.specs.Laws.StrictElements.{der_allows_strict}
 use Rattle.asn1_headers.specs.declared.header.Header.{Header}
@@ -67,12 +67,12 @@ module _ {V : Type 0} (G : List ℕ → V → Type 0) where
   headed_begins p v b = record { id = b.id; rest = []; inner = whole_front G p.content v.1 b.inner }
 
   -- An element has one value with its header, where one word alone begins its contents octets.
-  headed_one_body : IsOneFront G → IsOneBody (HeadedBody G)
+  headed_one_body : IsPrefixFree G → IsOneBody (HeadedBody G)
   headed_one_body one p v w a b = pair_same v w (a.id ∙ sym b.id) (one.one a.inner.word b.inner.word a.rest b.rest v.1
       w.1 a.inner.fits b.inner.fits (sym a.inner.is ∙ b.inner.is)).1
 
   -- So has one whose contents octets are a word.
-  headed_one_whole : IsOneFront G → IsOneBody (HeadedWhole G)
+  headed_one_whole : IsPrefixFree G → IsOneBody (HeadedWhole G)
   headed_one_whole one p v w a b = headed_one_body one p v w (headed_begins p v a) (headed_begins p w b)
 
   -- Its identifier is one that an element can have, and the value within one of the type's.

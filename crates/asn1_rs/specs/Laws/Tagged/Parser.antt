@@ -4,8 +4,8 @@ use Rattle.std.proofs.Common.{◌∙◌, ap, sym, subst, refl, inl, inr}
 use Rattle.x690.specs.Octets.{IsOctets}
 use Rattle.x690.specs.Identifiers.{Identifier}
 use Rattle.x690.specs.Elements.{Parts}
-use Rattle.x690.specs.Faults.{Breach, Fault}
-use Rattle.x690.specs.Joined.{IsOneFront}
+use Rattle.x690.specs.Faults.{Violation, Fault}
+use Rattle.x690.specs.Joined.{IsPrefixFree}
 use Rattle.asn1_rs.specs.declared.asn1_types.any.Any.{Any}
 use Rattle.asn1_rs.specs.declared.asn1_types.tagged.parser.TaggedParser.{TaggedParser}
 use Rattle.asn1_headers.specs.declared.error.Err.{Err as Refusal}
@@ -37,7 +37,7 @@ abbrev parser_value : {K T V E : Type 0} → (T → V) → TaggedParser K T E �
 parser_value value = headed_value (λ t. identifier_of (parser_header t)) inner_of value
 
 -- the element that was read is the one of any word at the front
-word_body : {V : Type 0} (ElementOf : List ℕ → Parts → Type 0) → IsOneFront ElementOf →
+word_body : {V : Type 0} (ElementOf : List ℕ → Parts → Type 0) → IsPrefixFree ElementOf →
     (Body : Parts → V → Type 0) (input more rest w r : List ℕ) (p : Parts) (v : V) →
     Front ElementOf input p rest → input ++ more ≡ w ++ r → ElementWord ElementOf NoCheck Body w v → Body p v
 word_body ElementOf one Body input more rest w r p v f h d =
@@ -46,14 +46,14 @@ word_body ElementOf one Body input more rest w r p v f h d =
     subst (λ (q : Parts). Body q v) (sym same.1) d.3
 
 module _ {K T V E : Type 0} (ElementOf : List ℕ → Parts → Type 0) (FaultOf : List ℕ → Fault → Type 0)
-    (IsCut : List ℕ → Type 0) (elements : AreElements ElementOf FaultOf IsCut) (refuses : Breach → Error)
+    (IsTruncated : List ℕ → Type 0) (elements : AreElements ElementOf FaultOf IsTruncated) (refuses : Violation → Error)
     (reads : List ℕ → Result (List ℕ × T) (Refusal E) → Type 0) (from : Error → E → Type 0) (G : List ℕ → V → Type 0)
     (value : T → V) (allocates : Bool)
     (exact : (octets : List ℕ) (answer : Result (List ℕ × T) (Refusal E)) → IsOctets octets → reads octets answer →
-    Exactly IsCut G value (TellsMemory allocates from) octets answer) where
+    Exactly IsTruncated G value (TellsMemory allocates from) octets answer) where
   -- A reader of values with the header of an explicit tag is exact where the value's reader is.
   pub explicit_parser_exact : (input : List ℕ) (answer : Result (List ℕ × TaggedParser K T E) (Refusal E)) →
-      ThenGives ElementOf FaultOf (refusal_of refuses) from (TakesExplicit reads) input answer → Exactly IsCut
+      ThenGives ElementOf FaultOf (refusal_of refuses) from (TakesExplicit reads) input answer → Exactly IsTruncated
       (ElementWord ElementOf NoCheck (HeadedBody G)) (parser_value value) (TellsMemory allocates from) input answer
   explicit_parser_exact input (Ok x) (any, rest, begins, (same, header, (left, read))) = record {
     word = begins.front.word;
@@ -72,7 +72,7 @@ module _ {K T V E : Type 0} (ElementOf : List ℕ → Parts → Type 0) (FaultOf
   }
   explicit_parser_exact input (Err r) (inl (fault, f, c)) = inr (λ more s w rest v e d.
       elements.final input more w rest d.0 fault f
-      (speaks_fault refuses from fault r (IsCut input) more (elements.counts input fault f) c s) d.1 e)
+      (speaks_fault refuses from fault r (IsTruncated input) more (elements.counts input fault f) c s) d.1 e)
   explicit_parser_exact input (Err r) (inr (any, rest, begins, read)) =
       elim (exact any.content.now (Err r)
       (elements.possible begins.front.word (parts_of any) begins.front.fits).content read) [
@@ -80,13 +80,13 @@ module _ {K T V E : Type 0} (ElementOf : List ℕ → Parts → Type 0) (FaultOf
         | inr n ↦ inr (λ more s w tail v h d.
             let b = word_body ElementOf elements.one (HeadedBody G) input more rest w tail (parts_of any) v begins.front
             h d in
-            none_now (IsCut any.content.now) r G any.content.now n b.inner.word b.rest v.1 b.inner.is b.inner.fits)
+            none_now (IsTruncated any.content.now) r G any.content.now n b.inner.word b.rest v.1 b.inner.is b.inner.fits)
       ]
 
   -- One that wants the value to be all of the contents octets is exact, too, where one word alone begins an input.
-  pub whole_parser_exact : IsOneFront G → (input : List ℕ)
+  pub whole_parser_exact : IsPrefixFree G → (input : List ℕ)
       (answer : Result (List ℕ × TaggedParser K T E) (Refusal E)) →
-      ThenGives ElementOf FaultOf (refusal_of refuses) from (TakesWhole reads from) input answer → Exactly IsCut
+      ThenGives ElementOf FaultOf (refusal_of refuses) from (TakesWhole reads from) input answer → Exactly IsTruncated
       (ElementWord ElementOf NoCheck (HeadedWhole G)) (parser_value value) (TellsMemory allocates from) input answer
   whole_parser_exact one input (Ok x) (any, rest, begins, (same, header, read)) = record {
     word = begins.front.word;
@@ -96,7 +96,7 @@ module _ {K T V E : Type 0} (ElementOf : List ℕ → Parts → Type 0) (FaultOf
       tt,
       record {
         id = ap identifier_of header;
-        inner = whole_is reads from G value allocates IsCut exact any.content.now (inner_of x.1)
+        inner = whole_is reads from G value allocates IsTruncated exact any.content.now (inner_of x.1)
             (elements.possible begins.front.word (parts_of any) begins.front.fits).content read;
       },
     );
@@ -104,9 +104,9 @@ module _ {K T V E : Type 0} (ElementOf : List ℕ → Parts → Type 0) (FaultOf
   }
   whole_parser_exact one input (Err r) (inl (fault, f, c)) = inr (λ more s w rest v e d.
       elements.final input more w rest d.0 fault f
-      (speaks_fault refuses from fault r (IsCut input) more (elements.counts input fault f) c s) d.1 e)
+      (speaks_fault refuses from fault r (IsTruncated input) more (elements.counts input fault f) c s) d.1 e)
   whole_parser_exact one input (Err r) (inr (any, rest, begins, read)) =
-      elim (whole_refused reads from G value allocates IsCut exact one any.content.now r
+      elim (whole_refused reads from G value allocates IsTruncated exact one any.content.now r
       (elements.possible begins.front.word (parts_of any) begins.front.fits).content read) [
         | inl m ↦ inl m
         | inr none ↦ inr (λ more s w tail v h d.
@@ -117,7 +117,7 @@ module _ {K T V E : Type 0} (ElementOf : List ℕ → Parts → Type 0) (FaultOf
 -- where the value's reader does not allocate, no refusal reports out of memory
 pub explicit_parser_no_memory : {K T E : Type 0} (ElementOf : List ℕ → Parts → Type 0)
     (FaultOf : List ℕ → Fault → Type 0)
-    (refuses : Breach → Error) → ((breach : Breach) → refuses breach ≢ OutOfMemory) →
+    (refuses : Violation → Error) → ((violation : Violation) → refuses violation ≢ OutOfMemory) →
     (reads : List ℕ → Result (List ℕ × T) (Refusal E) → Type 0) (from : Error → E → Type 0) →
     ((octets : List ℕ) (answer : Result (List ℕ × T) (Refusal E)) → reads octets answer →
     IfErr answer (HeldIn (IsOther from))) →
@@ -133,7 +133,7 @@ explicit_parser_no_memory ElementOf FaultOf refuses other reads from asks_no_mem
 
 -- nor where the value is to be all of the contents octets
 pub whole_parser_no_memory : {K T E : Type 0} (ElementOf : List ℕ → Parts → Type 0) (FaultOf : List ℕ → Fault → Type 0)
-    (refuses : Breach → Error) → ((breach : Breach) → refuses breach ≢ OutOfMemory) →
+    (refuses : Violation → Error) → ((violation : Violation) → refuses violation ≢ OutOfMemory) →
     (reads : List ℕ → Result (List ℕ × T) (Refusal E) → Type 0) (from : Error → E → Type 0) →
     ((octets : List ℕ) (answer : Result (List ℕ × T) (Refusal E)) → reads octets answer →
     IfErr answer (HeldIn (IsOther from))) →
@@ -201,8 +201,8 @@ checked_no_memory check checked converts from asks_no_memory any e (inl (refusal
 checked_no_memory check checked converts from asks_no_memory any e (inr (c, g)) = asks_no_memory any e g
 
 module _ {K T E : Type 0} (ElementOf : List ℕ → Parts → Type 0) (FaultOf : List ℕ → Fault → Type 0)
-    (refuses : Breach → Error) (own : Tag) (converts : Any → Result T E → Type 0) (from : Error → E → Type 0) where
-  module _ {V : Type 0} (IsCut : List ℕ → Type 0) (elements : AreElements ElementOf FaultOf IsCut)
+    (refuses : Violation → Error) (own : Tag) (converts : Any → Result T E → Type 0) (from : Error → E → Type 0) where
+  module _ {V : Type 0} (IsTruncated : List ℕ → Type 0) (elements : AreElements ElementOf FaultOf IsTruncated)
       (Body : Parts → V → Type 0) (value : T → V) (allocates : Bool)
       (exact : (any : Any) (answer : Result T E) → IsOctets any.content.now → converts any answer →
       TakesBody Body value allocates from (parts_of any) answer) where
@@ -225,16 +225,16 @@ module _ {K T E : Type 0} (ElementOf : List ℕ → Parts → Type 0) (FaultOf :
     -- A reader of values with the header of an implicit tag is exact where the value's conversion is.
     pub implicit_parser_exact : (input : List ℕ) (answer : Result (List ℕ × TaggedParser K T E) (Refusal E)) →
         ThenGives ElementOf FaultOf (refusal_of refuses) from (TakesImplicit own converts) input answer →
-        Exactly IsCut (ElementWord ElementOf NoCheck (UnderBody own.0 Body)) (parser_value value)
+        Exactly IsTruncated (ElementWord ElementOf NoCheck (UnderBody own.0 Body)) (parser_value value)
         (TellsMemory allocates from) input answer
     implicit_parser_exact input answer g =
-        element_exact ElementOf FaultOf IsCut elements refuses PassesAll (ConvertsToHeaded own converts) from NoCheck
+        element_exact ElementOf FaultOf IsTruncated elements refuses PassesAll (ConvertsToHeaded own converts) from NoCheck
         (UnderBody own.0 Body) (parser_value value) allocates (ElementWord ElementOf NoCheck (UnderBody own.0 Body))
         passes_all under_exact (λ o v w. w) (λ o v w. w) input answer
         (as_conversion ElementOf FaultOf (refusal_of refuses) own converts from input answer g)
 
   -- Where the value's conversion does not allocate, no refusal reports out of memory.
-  pub implicit_parser_no_memory : ((breach : Breach) → refuses breach ≢ OutOfMemory) →
+  pub implicit_parser_no_memory : ((violation : Violation) → refuses violation ≢ OutOfMemory) →
       ((any : Any) (e : E) → converts any (Err e) → IsOther from e) →
       (input : List ℕ) (answer : Result (List ℕ × TaggedParser K T E) (Refusal E)) →
       ThenGives ElementOf FaultOf (refusal_of refuses) from (TakesImplicit own converts) input answer →

@@ -20,7 +20,7 @@ ghost use Rattle.asn1_rs.specs.Any.{HandsOn};
 ghost use Rattle.asn1_headers.specs.Der.{DerContentGives};
 ghost use Rattle.asn1_headers.specs.Ber.{BerContentGives, max_depth};
 ghost use Rattle.asn1_rs.specs.Any.Value.{any_element};
-ghost use Rattle.asn1_rs.specs.Laws.InHand.{element_each_der};
+ghost use Rattle.asn1_rs.specs.Laws.AssertValid.{element_each_der};
 ghost use Rattle.asn1_rs.specs.Laws.Any.Value.{element_lawful, element_converts, element_checks};
 ghost use Rattle.asn1_headers.specs.declared.class.Class.TheVariants as classes;
 ghost use Rattle.asn1_headers.specs.declared.length.Length.TheVariants as forms;
@@ -28,10 +28,10 @@ ghost use Rattle.asn1_headers.specs.declared.tag.Tag.{Tag};
 
 use crate::ber::element_by_ber;
 use crate::der::element_by_der;
-use crate::kinds::in_hand::DerElement;
+use crate::kinds::assert_valid::DerElement;
 use crate::kinds::reading::LawfulCheckBy;
 use crate::kinds::{ElementKind, HasKind, LawfulConversion, LawfulElement};
-use crate::laws::in_hand::octets_in_hand;
+use crate::laws::assert_valid::assert_octets_valid;
 use crate::traits::{CheckDerConstraints, DerAutoDerive, DynTagged, FromAny, FromBer, FromDer};
 use asn1_headers::class::Class;
 use asn1_headers::error::{Err, Error, ParseResult};
@@ -279,9 +279,9 @@ impl LawfulElement for Any<'_> {
 
     ghost lawful = { element_lawful };
 
-    fn value_in_hand(&self) {
+    fn assert_value_valid(&self) {
         let _number = self.header.tag().0;
-        octets_in_hand(self.content);
+        assert_octets_valid(self.content);
     }
 }
 

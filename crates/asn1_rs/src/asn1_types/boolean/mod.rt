@@ -14,7 +14,7 @@ ghost use Rattle.asn1_rs.specs.Kinds.Writing.{IsPieceOf, universal_header};
 ghost use Rattle.asn1_headers.specs.Writer.{Wrote, MayRefuse};
 
 use crate::asn1_types::any::Any;
-use crate::kinds::in_hand::DerElement;
+use crate::kinds::assert_valid::DerElement;
 use crate::kinds::leaf::{ConvertsLeaf, LeafType};
 use crate::kinds::writing::{Piece, WritesElement};
 use crate::kinds::{ElementKind, HasKind, TagNumber};
@@ -150,7 +150,7 @@ impl LeafType for bool {
 
     ghost exact = { leaf_exact bool_leaf bool_lawful };
 
-    fn leaf_in_hand(&self) {}
+    fn assert_leaf_valid(&self) {}
 
     fn check_leaf(any: &Any<'_>) -> Result<(), Error> {
         check_truth(any)
@@ -206,7 +206,7 @@ impl LeafType for Boolean {
 
     ghost exact = { leaf_exact boolean_leaf boolean_lawful };
 
-    fn leaf_in_hand(&self) {
+    fn assert_leaf_valid(&self) {
         let _octet = self.value;
     }
 

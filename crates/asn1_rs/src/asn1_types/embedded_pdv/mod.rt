@@ -18,7 +18,7 @@ use crate::asn1_types::strings::kinds::ObjectDescriptor;
 use crate::kinds::reading::LawfulCheckBy;
 use crate::kinds::{ElementKind, HasKind, LawfulConversion, LawfulElement};
 use crate::laws::LawfulMember;
-use crate::laws::in_hand::{octets_in_hand, text_in_hand};
+use crate::laws::assert_valid::{assert_octets_valid, assert_text_valid};
 use crate::traits::{CheckDerConstraints, DerAutoDerive, FromAny};
 use asn1_headers::error::Error;
 use std::alloc::Global;
@@ -100,12 +100,12 @@ impl LawfulElement for EmbeddedPdv<'_> {
 
     ghost lawful = { pdv_lawful };
 
-    fn value_in_hand(&self) {
-        parts_in_hand(&self.identification);
+    fn assert_value_valid(&self) {
+        assert_parts_valid(&self.identification);
         if let Some(descriptor) = &self.data_value_descriptor {
-            text_in_hand(descriptor.as_str());
+            assert_text_valid(descriptor.as_str());
         }
-        octets_in_hand(self.data_value);
+        assert_octets_valid(self.data_value);
     }
 }
 
@@ -114,7 +114,7 @@ impl LawfulCheckBy<ElementKind> for EmbeddedPdv<'_> {
 }
 
 /// What an identification in hand holds are octets.
-fn parts_in_hand(identification: &PdvIdentification<'_>)
+fn assert_parts_valid(identification: &PdvIdentification<'_>)
     ensures { AreParts (identification_of identification.now) }
 {
     match identification {
@@ -122,19 +122,19 @@ fn parts_in_hand(identification: &PdvIdentification<'_>)
             s_abstract,
             s_transfer,
         } => {
-            octets_in_hand(s_abstract.as_bytes());
-            octets_in_hand(s_transfer.as_bytes());
+            assert_octets_valid(s_abstract.as_bytes());
+            assert_octets_valid(s_transfer.as_bytes());
         }
-        PdvIdentification::Syntax(syntax) => octets_in_hand(syntax.as_bytes()),
-        PdvIdentification::PresentationContextId(id) => octets_in_hand(id.as_bytes()),
+        PdvIdentification::Syntax(syntax) => assert_octets_valid(syntax.as_bytes()),
+        PdvIdentification::PresentationContextId(id) => assert_octets_valid(id.as_bytes()),
         PdvIdentification::ContextNegotiation {
             presentation_context_id,
             presentation_syntax,
         } => {
-            octets_in_hand(presentation_context_id.as_bytes());
-            octets_in_hand(presentation_syntax.as_bytes());
+            assert_octets_valid(presentation_context_id.as_bytes());
+            assert_octets_valid(presentation_syntax.as_bytes());
         }
-        PdvIdentification::TransferSyntax(syntax) => octets_in_hand(syntax.as_bytes()),
+        PdvIdentification::TransferSyntax(syntax) => assert_octets_valid(syntax.as_bytes()),
         PdvIdentification::Fixed => {}
     }
 }

@@ -8,7 +8,7 @@ use crate::asn1_types::any::Any;
 use crate::asn1_types::integer::{
     assert_integer, check_integer, signed_from_content, unsigned_from_content,
 };
-use crate::kinds::in_hand::DerElement;
+use crate::kinds::assert_valid::DerElement;
 use crate::kinds::leaf::{ConvertsLeaf, LeafType};
 use crate::kinds::{ElementKind, HasKind, TagNumber};
 use asn1_headers::error::Error;
@@ -202,7 +202,7 @@ impl<T: MachineInt + HasKind<Kind = ElementKind>> LeafType for T {
 
     ghost exact = { machine_exact T.machine T.lawful_machine };
 
-    fn leaf_in_hand(&self) {
+    fn assert_leaf_valid(&self) {
         let mut octets = [0; 17];
         let _ = self.octets_into(&mut octets);
     }

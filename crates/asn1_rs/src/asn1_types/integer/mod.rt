@@ -27,7 +27,7 @@ use asn1_headers::buffer::{DerBuffer, prepend_octets};
 use asn1_headers::error::{DerConstraint, Error, SerializeResult};
 use asn1_headers::tag::Tag;
 use asn1_headers::writer::{DerWrite, put_all};
-use x690::integers::{has_spare_ones, has_spare_zeros, unsigned_into, unsigned_number};
+use x690::integers::{has_redundant_ones, has_redundant_zeros, unsigned_into, unsigned_number};
 use x690::signed::{integer_element, signed_into, signed_number};
 
 /// Refuses an element that is constructed, has an indefinite length, or whose contents octets are not the fewest of
@@ -41,10 +41,10 @@ pub(crate) fn check_integer(any: &Any<'_>) -> Result<(), Error>
     if any.content.is_empty() {
         return Err(Error::DerConstraintFailed(DerConstraint::IntegerEmpty));
     }
-    if has_spare_zeros(any.content) {
+    if has_redundant_zeros(any.content) {
         return Err(Error::DerConstraintFailed(DerConstraint::IntegerLeadingZeroes));
     }
-    if has_spare_ones(any.content) {
+    if has_redundant_ones(any.content) {
         return Err(Error::DerConstraintFailed(DerConstraint::IntegerLeadingFF));
     }
     Ok(())

@@ -20,7 +20,7 @@ use crate::kinds::leaf::{ConvertsLeaf, LeafType};
 use crate::kinds::writing::WritesOctets;
 use crate::kinds::{ElementKind, HasKind, TagNumber};
 use crate::laws::LawfulMember;
-use crate::laws::in_hand::octets_in_hand;
+use crate::laws::assert_valid::assert_octets_valid;
 use asn1_headers::error::Error;
 use asn1_headers::tag::Tag;
 use std::alloc::Global;
@@ -140,8 +140,8 @@ impl LeafType for Integer<'_> {
 
     ghost exact = { lent_exact any_integer_leaf any_integer_lawful octets_held };
 
-    fn leaf_in_hand(&self) {
-        octets_in_hand(self.as_bytes());
+    fn assert_leaf_valid(&self) {
+        assert_octets_valid(self.as_bytes());
     }
 
     fn check_leaf(any: &Any<'_>) -> Result<(), Error>

@@ -18,12 +18,12 @@ ghost use Rattle.asn1_rs.specs.Sequence.Iterator.{octets_left};
 
 use crate::asn1_types::any::Any;
 use crate::asn1_types::sequence::iterator::SequenceIterator;
-use crate::kinds::in_hand::DerElement;
+use crate::kinds::assert_valid::DerElement;
 use crate::kinds::leaf::{ConvertsLeaf, LeafType};
 use crate::kinds::writing::WritesOctets;
 use crate::kinds::{ElementKind, HasKind};
 use crate::laws::LawfulMember;
-use crate::laws::in_hand::octets_in_hand;
+use crate::laws::assert_valid::assert_octets_valid;
 use asn1_headers::content::{BerParser, DerParser};
 use asn1_headers::error::{Err, Error, ParseResult};
 use kinds::{KeptKind, Sequence};
@@ -147,8 +147,8 @@ impl<K: KeptKind> LeafType for Kept<'_, K> {
     ghost exact = { lent_exact (kept_leaf (K.Number.TAG).0)
         (kept_lawful (K.Number.TAG).0 K.small K.constructed) (λ x. x.content) };
 
-    fn leaf_in_hand(&self) {
-        octets_in_hand(self.as_bytes());
+    fn assert_leaf_valid(&self) {
+        assert_octets_valid(self.as_bytes());
     }
 
     /// Refuses nothing.

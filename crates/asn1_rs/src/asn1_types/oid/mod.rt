@@ -26,7 +26,7 @@ use crate::asn1_types::any::Any;
 use crate::kinds::leaf::{ConvertsLeaf, LeafType};
 use crate::kinds::{ElementKind, HasKind, TagNumber};
 use crate::laws::LawfulMember;
-use crate::laws::in_hand::octets_in_hand;
+use crate::laws::assert_valid::assert_octets_valid;
 use asn1_headers::error::Error;
 use std::alloc::Global;
 use std::borrow::CowSlice;
@@ -160,8 +160,8 @@ impl LeafType for Oid<'_> {
       converts = oid_converts;
     } };
 
-    fn leaf_in_hand(&self) {
-        octets_in_hand(self.as_bytes());
+    fn assert_leaf_valid(&self) {
+        assert_octets_valid(self.as_bytes());
     }
 
     /// Refuses a constructed element with `ConstructUnexpected`, then one of indefinite length with

@@ -11,7 +11,7 @@ ghost use Rattle.asn1_rs.specs.Oid.Text.{debug_text, hex_octet, hex_text, id_tex
 use crate::asn1_types::oid::Oid;
 use crate::asn1_types::oid::buffer::put_text;
 use crate::asn1_types::oid::iterator::SubIdentifierIterator;
-use crate::laws::in_hand::octets_in_hand;
+use crate::laws::assert_valid::assert_octets_valid;
 use asn1_headers::error::Error;
 use itoa::Buffer;
 use std::alloc::Global;
@@ -31,7 +31,7 @@ impl Oid<'_> {
         ensures room { length (id_text (is_relative self.now) (oid_octets self.now)) ≤
             4 * length (oid_octets self.now) + 2 }
     {
-        octets_in_hand(self.as_bytes());
+        assert_octets_valid(self.as_bytes());
         let end = put_text(self, buffer)?;
         Some(str::from_utf8(&buffer[..end]).unwrap())
     }
@@ -59,7 +59,7 @@ fn long_text(oid: &Oid<'_>, alloc: Global) -> Result<String, Error>
     ensures refused { IfErr result (λ e. e ≡ errors.OutOfMemory) }
 {
     let octets = oid.as_bytes();
-    octets_in_hand(octets);
+    assert_octets_valid(octets);
     if octets.len() >= usize::MAX / 4 {
         return Err(Error::OutOfMemory);
     }

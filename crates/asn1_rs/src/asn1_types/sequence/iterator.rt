@@ -6,17 +6,17 @@ ghost use Rattle.std.specs.declared.result.Result.TheVariants as results;
 ghost use Rattle.std.specs.Iterator.{at_most, Yields};
 ghost use Rattle.std.specs.Iterator.Runs.{Run};
 ghost use Rattle.x690.specs.Octets.{IsOctets};
-ghost use Rattle.x690.specs.Identifiers.{IsCutIdentifier};
+ghost use Rattle.x690.specs.Identifiers.{IsTruncatedIdentifier};
 ghost use Rattle.x690.specs.Lengths.{indefinite};
 ghost use Rattle.x690.specs.Nested.{IsElement};
-ghost use Rattle.x690.specs.Joined.{AreJoinedWords, IsJoined};
+ghost use Rattle.x690.specs.Joined.{AreConcatenatedWords, IsConcatenation};
 ghost use Rattle.asn1_headers.specs.declared.error.Err.{Err as Refusal};
 ghost use Rattle.asn1_headers.specs.declared.content.BerParser.{BerParser};
 ghost use Rattle.asn1_headers.specs.Answers.{seen, TellsMemory, IsOther};
 ghost use Rattle.asn1_headers.specs.Error.{HeldIn};
 ghost use Rattle.asn1_headers.specs.declared.error.Error.{Error};
 ghost use Rattle.asn1_headers.specs.declared.error.Error.TheVariants as errors;
-ghost use Rattle.asn1_rs.specs.Lists.{ItemsGive, HasNoJoining};
+ghost use Rattle.asn1_rs.specs.Lists.{ItemsGive, HasNoConcatenation};
 ghost use Rattle.asn1_rs.specs.declared.asn1_types.any.Any.{Any};
 ghost use Rattle.asn1_rs.specs.Any.{parts_of, BerElementGives};
 ghost use Rattle.asn1_headers.specs.Ber.{max_depth, EndsWithin};
@@ -145,13 +145,13 @@ pub trait ReadsWords<'a, T, E: From<Error>>: ReadsItems<'a, T, E> {
     ghost Words: { List ℕ → Value → Type 0 };
 
     /// Where the octets end within an identifier, so that a refusal says nothing of more of them.
-    ghost IsCut: { List ℕ → Type 0 };
+    ghost IsTruncated: { List ℕ → Type 0 };
 
     /// Whether reading may allocate.
     ghost allocates: { Bool };
 
     /// It takes exactly the words, and one word alone begins an input.
-    ghost exact: { ReadsExactly Self.IsCut Self.Words Self.value
+    ghost exact: { ReadsExactly Self.IsTruncated Self.Words Self.value
         (TellsMemory Self.allocates E.from_gives) Self.item_gives };
 
     /// Where reading does not allocate, no refusal reports out of memory.
@@ -167,7 +167,7 @@ impl<'a, T: LawfulBer<'a, E>, E: From<Error>> ReadsWords<'a, T, E> for BerParser
 
     ghost Words = { ber_words T.grammar };
 
-    ghost IsCut = { EndsWithin };
+    ghost IsTruncated = { EndsWithin };
 
     ghost allocates = { T.grammar.allocates };
 
@@ -183,7 +183,7 @@ impl<'a, T: LawfulDer<'a, E>, E: From<Error>> ReadsWords<'a, T, E> for DerParser
 
     ghost Words = { T.grammar.Der };
 
-    ghost IsCut = { IsCutIdentifier };
+    ghost IsTruncated = { IsTruncatedIdentifier };
 
     ghost allocates = { T.grammar.allocates };
 
@@ -220,7 +220,7 @@ pub fn walks_take_words<'a, T, F: ReadsWords<'a, T, E>, E: From<Error>>()
         → IsWalk F.Words F.value (TellsNoWord F.Words (IsMemory F.allocates E.from_gives))
         (octets_left s) answers (octets_left t) }
     ensures whole { (s t : SequenceIterator T F E) (answers : List (Result T E))
-        → IsOctets (octets_left s) → AreJoinedWords F.Words (octets_left s)
+        → IsOctets (octets_left s) → AreConcatenatedWords F.Words (octets_left s)
         → Yields (WalkSteps F.item_gives E.from_gives) s answers t
         → IsWalk F.Words F.value (TellsMemoryAlone (IsMemory F.allocates E.from_gives))
         (octets_left s) answers (octets_left t) }
@@ -230,7 +230,7 @@ pub fn walks_take_words<'a, T, F: ReadsWords<'a, T, E>, E: From<Error>>()
         → IsWalkOf F.Words F.value (TellsNoWord F.Words (IsMemory F.allocates E.from_gives)) p }
     ensures whole_run { (p : Run {S = SequenceIterator T F E} {A = Result T E}
         (WalkSteps F.item_gives E.from_gives))
-        → IsOctets (octets_left p.from) → AreJoinedWords F.Words (octets_left p.from)
+        → IsOctets (octets_left p.from) → AreConcatenatedWords F.Words (octets_left p.from)
         → IsWalkOf F.Words F.value (TellsMemoryAlone (IsMemory F.allocates E.from_gives)) p }
     ensures asks_no_memory { (s t : SequenceIterator T F E) (answers : List (Result T E))
         → F.allocates ≡ false → Yields (WalkSteps F.item_gives E.from_gives) s answers t
@@ -249,13 +249,13 @@ pub fn walks_take_words<'a, T, F: ReadsWords<'a, T, E>, E: From<Error>>()
 pub fn items_are_joined_words<'a, T, F: ReadsWords<'a, T, E>, E: From<Error>>()
     ensures joined { (content : List ℕ) (items : List T) → IsOctets content →
         ItemsGive F.item_gives E.from_gives content (results.Ok items) →
-        IsJoined F.Words content (map F.value items) }
+        IsConcatenation F.Words content (map F.value items) }
     ensures alone { (content : List ℕ) (items : List T) (values : List F.Value) →
         IsOctets content → ItemsGive F.item_gives E.from_gives content (results.Ok items) →
-        IsJoined F.Words content values → values ≡ map F.value items }
+        IsConcatenation F.Words content values → values ≡ map F.value items }
     ensures refused { (content : List ℕ) (e : E) → IsOctets content →
         ItemsGive {T = T} F.item_gives E.from_gives content (results.Err e) →
-        E.from_gives errors.OutOfMemory e ⊎ HasNoJoining F.Words content }
+        E.from_gives errors.OutOfMemory e ⊎ HasNoConcatenation F.Words content }
 {}
 
 /// A walk by BER over the contents octets of an element of indefinite length that [`Any`](crate::Any) was read from

@@ -6,7 +6,7 @@ ghost use Rattle.std.specs.Iterator.{IsFiniteIterable, Drains};
 ghost use Rattle.std.proofs.Common.{lit<};
 ghost use Rattle.asn1_headers.specs.declared.error.Error.TheVariants as errors;
 ghost use Rattle.asn1_headers.specs.Ber.{EndsWithin};
-ghost use Rattle.x690.specs.Identifiers.{IsCutIdentifier};
+ghost use Rattle.x690.specs.Identifiers.{IsTruncatedIdentifier};
 ghost use Rattle.asn1_rs.specs.Lists.{PushesItem};
 ghost use Rattle.asn1_rs.specs.Sequence.SequenceOf.{sequence_items, IsSequenceOf, lends_sequence_items};
 ghost use Rattle.asn1_rs.specs.Laws.Lists.{takes_some, number_checks, constructed_checks, list_takes, list_checks};
@@ -20,7 +20,7 @@ use crate::kinds::collections::{SequenceKind, WritesInOrder};
 use crate::kinds::reading::{
     AnyForm, HasReader, LawfulBodyBy, LawfulCheckBy, LawfulDerBy, ListReader,
 };
-use crate::laws::in_hand::States;
+use crate::laws::assert_valid::States;
 use crate::laws::{LawfulBer, LawfulCheck, LawfulDer};
 use crate::to_der::ToDer;
 use crate::traits::Tagged;
@@ -187,7 +187,7 @@ impl<'a, T: LawfulDer<'a, E> + Drop, E: From<Error>> LawfulDerBy<'a, ListReader<
     for SequenceOf<T> {
     ghost exact_by_reader = { λ input answer octets.
         list_by_der_exact (number_checks 16) IsSequenceOf Self.grammar.value T.der_gives E.from_gives
-        T.grammar.Der T.grammar.value T.grammar.allocates IsCutIdentifier
+        T.grammar.Der T.grammar.value T.grammar.allocates IsTruncatedIdentifier
         (sequence_values T.grammar.value) T.lawful_item.der_one T.der_exact input answer };
 
     ghost no_memory_by_reader = { λ none input answer g. takes_some none };

@@ -2,7 +2,7 @@
 ghost use Rattle.std.specs.Prelude.{◌≡◌, true, MatchResult};
 ghost use Rattle.std.proofs.Common.{lit<};
 ghost use Rattle.asn1_headers.specs.Ber.{EndsWithin};
-ghost use Rattle.x690.specs.Identifiers.{IsCutIdentifier};
+ghost use Rattle.x690.specs.Identifiers.{IsTruncatedIdentifier};
 ghost use Rattle.asn1_rs.specs.Lists.{has_items};
 ghost use Rattle.asn1_rs.specs.Laws.Lists.{takes_some, number_checks, constructed_checks, list_takes, list_checks};
 ghost use Rattle.asn1_rs.specs.Laws.Lists.{list_by_der_exact, same_lists, same_values};
@@ -17,7 +17,7 @@ use crate::kinds::collections::{SequenceKind, WritesInOrder};
 use crate::kinds::reading::{
     AnyForm, HasReader, LawfulBodyBy, LawfulCheckBy, LawfulDerBy, ListReader,
 };
-use crate::laws::in_hand::States;
+use crate::laws::assert_valid::States;
 use crate::laws::{LawfulBer, LawfulCheck, LawfulDer, LawfulMember};
 use crate::to_der::ToDer;
 use crate::traits::Tagged;
@@ -103,7 +103,7 @@ impl<'a, T: LawfulDer<'a, E> + Drop, E: From<Error>> LawfulDerBy<'a, ListReader<
     for Vec<T> {
     ghost exact_by_reader = { λ input answer octets.
         list_by_der_exact (number_checks 16) has_items Self.grammar.value T.der_gives E.from_gives
-        T.grammar.Der T.grammar.value T.grammar.allocates IsCutIdentifier
+        T.grammar.Der T.grammar.value T.grammar.allocates IsTruncatedIdentifier
         (same_values T.grammar.value) T.lawful_item.der_one T.der_exact input answer };
 
     ghost no_memory_by_reader = { λ none input answer g. takes_some none };

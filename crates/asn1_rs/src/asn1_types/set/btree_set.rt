@@ -2,7 +2,7 @@
 ghost use Rattle.std.specs.Prelude.{◌≡◌, true, IfOk};
 ghost use Rattle.std.proofs.Common.{lit<, refl};
 ghost use Rattle.std.specs.BTreeSet.{IsFromIterResult};
-ghost use Rattle.x690.specs.Identifiers.{IsCutIdentifier};
+ghost use Rattle.x690.specs.Identifiers.{IsTruncatedIdentifier};
 ghost use Rattle.asn1_headers.specs.Ber.{EndsWithin};
 ghost use Rattle.asn1_rs.specs.Lists.{IsListOr, ListTakes};
 ghost use Rattle.asn1_rs.specs.Traits.{DerGives, OfParts, PassesAll};
@@ -19,7 +19,7 @@ use crate::asn1_types::lists::{
 use crate::kinds::HasKind;
 use crate::kinds::collections::{HasMembers, LawfulMembers, Once, SetKind, WritesAscending};
 use crate::kinds::reading::{ConstructedForm, LawfulBodyBy, LawfulCheckBy};
-use crate::laws::in_hand::States;
+use crate::laws::assert_valid::States;
 use crate::laws::{LawfulBer, LawfulCheck, LawfulDer, LawfulMember};
 use crate::to_der::ToDer;
 use crate::traits::{FromDer, Tagged};
@@ -135,7 +135,7 @@ impl<'a, T: LawfulDer<'a, E> + LawfulMember + Ord + Drop, E: From<Error>> Lawful
     ghost der_exact = { λ input answer octets.
         set_by_der_exact (constructed_checks 17) (λ items s. IsFromIterResult T.cmp items s) set_of
         Self.grammar.value T.der_gives E.from_gives T.grammar.Der T.grammar.value
-        T.grammar.allocates IsCutIdentifier (tree_told T.eq T.grammar.value T.same T.cmp T.matches_eq)
+        T.grammar.allocates IsTruncatedIdentifier (tree_told T.eq T.grammar.value T.same T.cmp T.matches_eq)
         T.lawful_item.der_one T.der_exact input answer };
 
     ghost der_no_memory = { λ none input answer g. takes_some none };

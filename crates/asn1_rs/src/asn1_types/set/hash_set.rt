@@ -4,7 +4,7 @@
 ghost use Rattle.std.specs.Prelude.{◌≡◌, true, IfOk};
 ghost use Rattle.std.proofs.Common.{lit<, refl};
 ghost use Rattle.std.specs.HashSet.{IsFromIterResult};
-ghost use Rattle.x690.specs.Identifiers.{IsCutIdentifier};
+ghost use Rattle.x690.specs.Identifiers.{IsTruncatedIdentifier};
 ghost use Rattle.asn1_headers.specs.Ber.{EndsWithin};
 ghost use Rattle.asn1_rs.specs.Set.{set_of, is_other};
 ghost use Rattle.asn1_rs.specs.Laws.Lists.{takes_some, constructed_checks, list_checks};
@@ -20,7 +20,7 @@ use crate::kinds::collections::{HasMembers, LawfulMembers, Once, SetKind, Writes
 use crate::kinds::reading::{
     ConstructedForm, HasReader, LawfulBodyBy, LawfulCheckBy, LawfulDerBy, ListReader,
 };
-use crate::laws::in_hand::States;
+use crate::laws::assert_valid::States;
 use crate::laws::{LawfulBer, LawfulCheck, LawfulDer, LawfulMember};
 use crate::to_der::ToDer;
 use crate::traits::Tagged;
@@ -138,7 +138,7 @@ impl<'a, T: LawfulDer<'a, E> + LawfulMember + Hash + Drop, E: From<Error>> Lawfu
     ghost exact_by_reader = { λ input answer octets.
         set_by_der_exact (constructed_checks 17) (λ items s. IsFromIterResult T.eq items s) set_of
         Self.grammar.value T.der_gives E.from_gives T.grammar.Der T.grammar.value
-        T.grammar.allocates IsCutIdentifier (table_told T.eq T.grammar.value T.same)
+        T.grammar.allocates IsTruncatedIdentifier (table_told T.eq T.grammar.value T.same)
         T.lawful_item.der_one T.der_exact input answer };
 
     ghost no_memory_by_reader = { λ none input answer g. takes_some none };

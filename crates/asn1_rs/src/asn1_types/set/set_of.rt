@@ -4,7 +4,7 @@ ghost use Rattle.std.specs.Borrow.{sem};
 ghost use Rattle.std.specs.Cmp.Lexicographic.{pointwise};
 ghost use Rattle.std.specs.Iterator.{IsFiniteIterable, Drains};
 ghost use Rattle.std.proofs.Common.{lit<};
-ghost use Rattle.x690.specs.Identifiers.{IsCutIdentifier};
+ghost use Rattle.x690.specs.Identifiers.{IsTruncatedIdentifier};
 ghost use Rattle.x690.specs.Collections.{multiset, AnyList};
 ghost use Rattle.asn1_headers.specs.Ber.{EndsWithin};
 ghost use Rattle.asn1_headers.specs.declared.error.Error.TheVariants as errors;
@@ -21,14 +21,14 @@ use crate::asn1_types::lists::{
     FromItems, Listed, PackedEncodings, encode_items, items_from_iter, push_item,
 };
 use crate::asn1_types::set::prepend_set;
+use crate::kinds::assert_valid::AlwaysDerBy;
 use crate::kinds::collections::{Repeats, SetKind, WritesAscending};
-use crate::kinds::in_hand::AlwaysDerBy;
 use crate::kinds::reading::{
     AnyForm, HasReader, LawfulBodyBy, LawfulCheckBy, LawfulDerBy, ListReader,
 };
 use crate::kinds::writing::{LawfulTaggedBy, LawfulWriteBy, TakesClassBy};
 use crate::kinds::{GrammarBy, HasKind, LawfulItemBy};
-use crate::laws::in_hand::{AlwaysDer, OfDer, OfValue, States};
+use crate::laws::assert_valid::{AlwaysDer, OfDer, OfValue, States};
 use crate::laws::{Grammar, LawfulBer, LawfulCheck, LawfulDer, LawfulItem, LawfulWrite};
 use crate::to_der::ToDer;
 use crate::traits::Tagged;
@@ -218,7 +218,7 @@ impl<'a, T: LawfulDer<'a, E> + Drop, E: From<Error>> LawfulDerBy<'a, ListReader<
     for SetOf<T> {
     ghost exact_by_reader = { λ input answer octets.
         set_by_der_exact (number_checks 17) HasItems multiset Self.grammar.value T.der_gives
-        E.from_gives T.grammar.Der T.grammar.value T.grammar.allocates IsCutIdentifier
+        E.from_gives T.grammar.Der T.grammar.value T.grammar.allocates IsTruncatedIdentifier
         (multiset_told T.grammar.value) T.lawful_item.der_one T.der_exact input answer };
 
     ghost no_memory_by_reader = { λ none input answer g. takes_some none };

@@ -14,10 +14,10 @@ ghost use Rattle.asn1_rs.specs.Leaf.{HaveOneRefusal, LeafTakes};
 use crate::asn1_types::any::Any;
 use crate::asn1_types::strings::kinds::{BmpString, StringKind};
 use crate::asn1_types::strings::{CodedString, TestValidCharset};
-use crate::kinds::in_hand::DerElement;
+use crate::kinds::assert_valid::DerElement;
 use crate::kinds::leaf::{ConvertsLeaf, LeafType};
 use crate::laws::LawfulMember;
-use crate::laws::in_hand::text_in_hand;
+use crate::laws::assert_valid::assert_text_valid;
 use crate::traits::Tagged;
 use asn1_headers::error::Error;
 use std::alloc::Global;
@@ -81,8 +81,8 @@ impl<K: StringKind<Characters: CharacterCode>> LeafType for CodedString<'_, K> {
         (coded_string_lawful (K.Number.TAG).0 K.Characters.octets_of K.small K.primitive
         K.Characters.is) };
 
-    fn leaf_in_hand(&self) {
-        text_in_hand(self.as_str());
+    fn assert_leaf_valid(&self) {
+        assert_text_valid(self.as_str());
     }
 
     /// Refuses a constructed element with `ConstructUnexpected` (X.690 10.2).

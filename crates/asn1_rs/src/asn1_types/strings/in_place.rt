@@ -11,11 +11,11 @@ ghost use Rattle.asn1_rs.specs.Strings.{StringGives, string_leaf, string_reading
 use crate::asn1_types::any::Any;
 use crate::asn1_types::strings::kinds::{Repertoire, StringKind, Utf8Kind};
 use crate::asn1_types::strings::{RestrictedString, TestValidCharset};
-use crate::kinds::in_hand::DerElement;
+use crate::kinds::assert_valid::DerElement;
 use crate::kinds::leaf::{ConvertsLeaf, LeafType};
 use crate::kinds::writing::WritesOctets;
 use crate::laws::LawfulMember;
-use crate::laws::in_hand::text_in_hand;
+use crate::laws::assert_valid::assert_text_valid;
 use crate::traits::Tagged;
 use asn1_headers::error::Error;
 use std::alloc::Global;
@@ -60,8 +60,8 @@ impl<K: StringKind<Characters: Repertoire>> LeafType for RestrictedString<'_, K>
     ghost exact = { string_exact (K.Number.TAG).0 K.Characters.IsText K.small K.primitive
         K.Characters.utf8 };
 
-    fn leaf_in_hand(&self) {
-        text_in_hand(self.as_str());
+    fn assert_leaf_valid(&self) {
+        assert_text_valid(self.as_str());
     }
 
     /// Refuses a constructed element with `ConstructUnexpected` (X.690 10.2).

@@ -1,13 +1,13 @@
 //! Values with the header of their explicit tag: their constraints, and their laws (X.690 8.14.2).
 ghost use Rattle.x690.specs.Elements.{IsDerElement};
 ghost use Rattle.x690.specs.Faults.{DerElementFault};
-ghost use Rattle.x690.specs.Identifiers.{IsCutIdentifier};
+ghost use Rattle.x690.specs.Identifiers.{IsTruncatedIdentifier};
 ghost use Rattle.x690.specs.Nested.{IsElement, ElementFault};
 ghost use Rattle.asn1_rs.specs.Any.{parts_of, DerElementGives};
 ghost use Rattle.asn1_headers.specs.Ber.{max_depth, EndsWithin};
 ghost use Rattle.asn1_headers.specs.Header.{identifier_of};
-ghost use Rattle.asn1_headers.specs.Header.Reading.{der_breach, ber_breach};
-ghost use Rattle.asn1_rs.specs.Laws.Readers.{der_elements, ber_elements, der_breach_no_memory, ber_breach_no_memory};
+ghost use Rattle.asn1_headers.specs.Header.Reading.{der_violation, ber_violation};
+ghost use Rattle.asn1_rs.specs.Laws.Readers.{der_elements, ber_elements, der_violation_no_memory, ber_violation_no_memory};
 ghost use Rattle.asn1_rs.specs.Laws.Tagged.Explicit.{explicit_checks};
 ghost use Rattle.asn1_rs.specs.Laws.Tagged.Headed.{explicit_headed_lawful, headed_same};
 ghost use Rattle.asn1_rs.specs.Laws.Tagged.Parser.{explicit_parser_exact, explicit_parser_no_memory};
@@ -65,8 +65,8 @@ impl<T: LawfulWrite> LawfulWrite for TaggedParser<'_, Explicit, T, Error> {
 }
 
 impl<T: LawfulCheck> LawfulCheck for TaggedParser<'_, Explicit, T, Error> {
-    ghost checks = { explicit_checks IsDerElement DerElementFault IsCutIdentifier der_elements
-        der_breach der_breach_no_memory T.check_gives T.grammar.Check T.checks };
+    ghost checks = { explicit_checks IsDerElement DerElementFault IsTruncatedIdentifier der_elements
+        der_violation der_violation_no_memory T.check_gives T.grammar.Check T.checks };
 }
 
 impl<T: LawfulMember, E> LawfulMember for TaggedParser<'_, Explicit, T, E> {
@@ -80,11 +80,11 @@ where
     E: From<Error>,
 {
     ghost ber_exact = { λ input answer octets. explicit_parser_exact (IsElement max_depth)
-        (ElementFault max_depth) EndsWithin ber_elements ber_breach T.ber_gives E.from_gives
+        (ElementFault max_depth) EndsWithin ber_elements ber_violation T.ber_gives E.from_gives
         (ber_words T.grammar) T.grammar.value T.grammar.allocates T.ber_exact input answer };
 
     ghost ber_no_memory = { λ none. explicit_parser_no_memory (IsElement max_depth)
-        (ElementFault max_depth) ber_breach ber_breach_no_memory T.ber_gives E.from_gives
+        (ElementFault max_depth) ber_violation ber_violation_no_memory T.ber_gives E.from_gives
         (T.ber_no_memory none) };
 }
 
@@ -94,9 +94,9 @@ where
     E: From<Error>,
 {
     ghost der_exact = { λ input answer octets. whole_parser_exact IsDerElement DerElementFault
-        IsCutIdentifier der_elements der_breach T.der_gives E.from_gives T.grammar.Der
+        IsTruncatedIdentifier der_elements der_violation T.der_gives E.from_gives T.grammar.Der
         T.grammar.value T.grammar.allocates T.der_exact T.lawful_item.der_one input answer };
 
     ghost der_no_memory = { λ none. whole_parser_no_memory IsDerElement DerElementFault
-        der_breach der_breach_no_memory T.der_gives E.from_gives (T.der_no_memory none) };
+        der_violation der_violation_no_memory T.der_gives E.from_gives (T.der_no_memory none) };
 }

@@ -10,10 +10,10 @@ ghost use Rattle.asn1_rs.specs.Laws.Tagged.Explicit.{explicit_lawful, explicit_n
 ghost use Rattle.asn1_rs.specs.Laws.Tagged.Explicit.{explicit_takes, explicit_takes_no_memory, explicit_der_exact};
 ghost use Rattle.asn1_rs.specs.Laws.Tagged.Explicit.{explicit_der_no_memory, explicit_checks};
 ghost use Rattle.asn1_headers.specs.Ber.{max_depth, EndsWithin};
-ghost use Rattle.asn1_headers.specs.Header.Reading.{ber_breach};
-ghost use Rattle.asn1_rs.specs.Laws.Readers.{ber_elements, ber_breach_no_memory};
+ghost use Rattle.asn1_headers.specs.Header.Reading.{ber_violation};
+ghost use Rattle.asn1_rs.specs.Laws.Readers.{ber_elements, ber_violation_no_memory};
 ghost use Rattle.x690.specs.Nested.{IsElement, ElementFault};
-ghost use Rattle.x690.specs.Identifiers.{IsCutIdentifier};
+ghost use Rattle.x690.specs.Identifiers.{IsTruncatedIdentifier};
 ghost use Rattle.asn1_rs.specs.Traits.{OfParts};
 ghost use Rattle.asn1_rs.specs.Laws.Writing.{explicit_lawful_writing};
 ghost use Rattle.asn1_rs.specs.Tagged.Writing.{explicit_under, tag_writing};
@@ -30,7 +30,7 @@ use crate::header::{element_len, put_counted_header};
 use crate::kinds::reading::{
     CheckBy, FromAnyBy, FromDerBy, LawfulBodyBy, LawfulCheckBy, LawfulDerBy,
 };
-use crate::laws::in_hand::AlwaysDer;
+use crate::laws::assert_valid::AlwaysDer;
 use crate::laws::{
     Grammar, LawfulBer, LawfulBody, LawfulCheck, LawfulDer, LawfulItem, LawfulMember, LawfulTagged,
     LawfulWrite, TakesClass,
@@ -269,7 +269,7 @@ impl<'a, T: LawfulDer<'a, E> + Drop, E: From<Error>, const CLASS: u8, const TAG:
     E,
 > for TaggedValue<T, E, Explicit, CLASS, TAG> {
     ghost exact_by_reader = { λ input answer octets. explicit_der_exact CLASS TAG (λ t. t.inner)
-        T.der_gives E.from_gives T.grammar.Der T.grammar.value T.grammar.allocates IsCutIdentifier
+        T.der_gives E.from_gives T.grammar.Der T.grammar.value T.grammar.allocates IsTruncatedIdentifier
         T.der_exact T.lawful_item.der_one input answer };
 
     ghost no_memory_by_reader = { λ none. explicit_der_no_memory CLASS TAG (λ t. t.inner) T.der_gives
@@ -279,7 +279,7 @@ impl<'a, T: LawfulDer<'a, E> + Drop, E: From<Error>, const CLASS: u8, const TAG:
 impl<T: LawfulCheck, E, const CLASS: u8, const TAG: u32> LawfulCheckBy<TagMark<Explicit>>
     for TaggedValue<T, E, Explicit, CLASS, TAG> {
     ghost checks_by_kind = { explicit_checks (IsElement max_depth) (ElementFault max_depth) EndsWithin
-        ber_elements ber_breach ber_breach_no_memory T.check_gives T.grammar.Check T.checks };
+        ber_elements ber_violation ber_violation_no_memory T.check_gives T.grammar.Check T.checks };
 }
 
 impl<T: LawfulMember, E, const CLASS: u8, const TAG: u32> LawfulMember

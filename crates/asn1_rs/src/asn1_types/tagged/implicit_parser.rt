@@ -2,14 +2,14 @@
 ghost use Rattle.std.specs.Prelude.{ℕ, ◌<◌};
 ghost use Rattle.x690.specs.Elements.{IsDerElement};
 ghost use Rattle.x690.specs.Faults.{DerElementFault};
-ghost use Rattle.x690.specs.Identifiers.{IsCutIdentifier};
+ghost use Rattle.x690.specs.Identifiers.{IsTruncatedIdentifier};
 ghost use Rattle.x690.specs.Nested.{IsElement, ElementFault};
 ghost use Rattle.asn1_rs.specs.Any.{parts_of};
 ghost use Rattle.asn1_headers.specs.Ber.{max_depth, EndsWithin};
 ghost use Rattle.asn1_rs.specs.Grammar.{FormTakes};
 ghost use Rattle.asn1_headers.specs.Header.{identifier_of};
-ghost use Rattle.asn1_headers.specs.Header.Reading.{der_breach, ber_breach};
-ghost use Rattle.asn1_rs.specs.Laws.Readers.{der_elements, ber_elements, der_breach_no_memory, ber_breach_no_memory};
+ghost use Rattle.asn1_headers.specs.Header.Reading.{der_violation, ber_violation};
+ghost use Rattle.asn1_rs.specs.Laws.Readers.{der_elements, ber_elements, der_violation_no_memory, ber_violation_no_memory};
 ghost use Rattle.asn1_rs.specs.Laws.Tagged.Headed.{each_class, implicit_headed_lawful, headed_same};
 ghost use Rattle.asn1_rs.specs.Laws.Tagged.Implicit.{implicit_checked};
 ghost use Rattle.asn1_rs.specs.Laws.Tagged.Parser.{checked_exact, checked_no_memory, implicit_parser_exact};
@@ -103,12 +103,12 @@ where
     E: From<Error>,
 {
     ghost ber_exact = { λ input answer octets. implicit_parser_exact (IsElement max_depth)
-        (ElementFault max_depth) ber_breach T.TAG T.any_gives E.from_gives EndsWithin
+        (ElementFault max_depth) ber_violation T.TAG T.any_gives E.from_gives EndsWithin
         ber_elements T.grammar.Body T.grammar.value T.grammar.allocates T.body_exact input
         answer };
 
     ghost ber_no_memory = { λ none. implicit_parser_no_memory (IsElement max_depth)
-        (ElementFault max_depth) ber_breach T.TAG T.any_gives E.from_gives ber_breach_no_memory
+        (ElementFault max_depth) ber_violation T.TAG T.any_gives E.from_gives ber_violation_no_memory
         (T.body_no_memory none) };
 }
 
@@ -118,15 +118,15 @@ where
     E: From<Error>,
 {
     ghost der_exact = { λ input answer octets. implicit_parser_exact IsDerElement DerElementFault
-        der_breach T.TAG (ChecksAndConverts T.check_gives T.any_gives E.from_gives)
-        E.from_gives IsCutIdentifier der_elements (CheckedBody T.grammar.Check T.grammar.Body)
+        der_violation T.TAG (ChecksAndConverts T.check_gives T.any_gives E.from_gives)
+        E.from_gives IsTruncatedIdentifier der_elements (CheckedBody T.grammar.Check T.grammar.Body)
         T.grammar.value T.grammar.allocates
         (checked_exact T.check_gives T.grammar.Check T.checks T.any_gives E.from_gives
         T.grammar.Body T.grammar.value T.grammar.allocates T.body_exact) input answer };
 
     ghost der_no_memory = { λ none. implicit_parser_no_memory IsDerElement DerElementFault
-        der_breach T.TAG (ChecksAndConverts T.check_gives T.any_gives E.from_gives) E.from_gives
-        der_breach_no_memory
+        der_violation T.TAG (ChecksAndConverts T.check_gives T.any_gives E.from_gives) E.from_gives
+        der_violation_no_memory
         (checked_no_memory T.check_gives T.checks.asks_no_memory T.any_gives E.from_gives
         (T.body_no_memory none)) };
 }

@@ -5,8 +5,8 @@ ghost use Rattle.x690.specs.Faults.{DerElementFault};
 ghost use Rattle.asn1_headers.specs.declared.error.SerializeError.TheVariants.{InvalidClass};
 ghost use Rattle.asn1_rs.specs.declared.asn1_types.any.Any.{Any};
 ghost use Rattle.asn1_rs.specs.Any.{parts_of};
-ghost use Rattle.asn1_headers.specs.Header.Reading.{der_breach};
-ghost use Rattle.asn1_rs.specs.Laws.Readers.{unchecked_exact, element_no_memory, der_breach_no_memory, all_pass};
+ghost use Rattle.asn1_headers.specs.Header.Reading.{der_violation};
+ghost use Rattle.asn1_rs.specs.Laws.Readers.{unchecked_exact, element_no_memory, der_violation_no_memory, all_pass};
 ghost use Rattle.asn1_rs.specs.Laws.Tagged.{number_fits, same_beside_nothing};
 ghost use Rattle.asn1_rs.specs.Laws.Tagged.Implicit.{implicit_lawful, implicit_number, implicit_takes_class};
 ghost use Rattle.asn1_rs.specs.Laws.Tagged.Implicit.{implicit_takes, implicit_takes_no_memory, implicit_checked};
@@ -25,7 +25,7 @@ use crate::header::{element_len, put_counted_header};
 use crate::kinds::reading::{
     CheckBy, FromAnyBy, FromDerBy, LawfulBodyBy, LawfulCheckBy, LawfulDerBy,
 };
-use crate::laws::in_hand::AlwaysDer;
+use crate::laws::assert_valid::AlwaysDer;
 use crate::laws::{
     Grammar, LawfulBody, LawfulCheck, LawfulDer, LawfulItem, LawfulMember, LawfulTagged,
     LawfulWrite, TakesClass,
@@ -264,8 +264,8 @@ where
         E.from_gives T.grammar.Body T.grammar.value T.grammar.allocates T.body_exact) input
         answer };
 
-    ghost no_memory_by_reader = { λ none. element_no_memory IsDerElement DerElementFault der_breach
-        der_breach_no_memory PassesAll
+    ghost no_memory_by_reader = { λ none. element_no_memory IsDerElement DerElementFault der_violation
+        der_violation_no_memory PassesAll
         (ImplicitTakes CLASS TAG (λ t. t.inner) T.TAG T.any_gives E.from_gives) E.from_gives
         all_pass (implicit_takes_no_memory {W = Self} CLASS TAG (λ t. t.inner) T.TAG T.any_gives
         E.from_gives (T.body_no_memory none)) };

@@ -126,8 +126,8 @@ impl LeafType for GeneralizedTime {
 
     ghost exact = { leaf_exact generalized_time_leaf generalized_time_lawful };
 
-    fn leaf_in_hand(&self) {
-        self.0.fields_in_hand();
+    fn assert_leaf_valid(&self) {
+        self.0.assert_fields_valid();
     }
 
     /// Refuses contents octets that do not end in `Z` (X.690 11.7.1), then those with a comma (11.7.4), with

@@ -135,7 +135,7 @@ impl fmt::Display for ASN1DateTime {
 }
 
 /// States of milliseconds in hand that a `u16` holds them.
-fn milliseconds_in_hand(millisecond: Option<u16>)
+fn assert_milliseconds_valid(millisecond: Option<u16>)
     ensures { MostMilliseconds 65535 millisecond }
 {
     if let Some(number) = millisecond {
@@ -144,7 +144,7 @@ fn milliseconds_in_hand(millisecond: Option<u16>)
 }
 
 /// States of a zone in hand that an `i8` holds its hours, and one its minutes.
-fn zone_in_hand(zone: ASN1TimeZone)
+fn assert_zone_valid(zone: ASN1TimeZone)
     ensures { IsZone zone }
 {
     if let TimeZone::Offset(hours, minutes) = zone {
@@ -155,16 +155,16 @@ fn zone_in_hand(zone: ASN1TimeZone)
 
 impl ASN1DateTime {
     /// States of fields in hand that they are such as an item may hold.
-    pub(crate) fn fields_in_hand(&self)
+    pub(crate) fn assert_fields_valid(&self)
         ensures { IsMoment (moment_of self.now) }
     {
-        self.numbers_in_hand();
-        milliseconds_in_hand(self.millisecond);
-        zone_in_hand(self.tz);
+        self.assert_numbers_valid();
+        assert_milliseconds_valid(self.millisecond);
+        assert_zone_valid(self.tz);
     }
 
     /// States of the numbers that their types hold them.
-    fn numbers_in_hand(&self)
+    fn assert_numbers_valid(&self)
         ensures year { self.now.year < 2 ^ 32 }
         ensures month { self.now.month < 256 }
         ensures day { self.now.day < 256 }

@@ -122,8 +122,8 @@ impl LeafType for UtcTime {
 
     ghost exact = { leaf_exact utc_time_leaf utc_time_lawful };
 
-    fn leaf_in_hand(&self) {
-        self.0.fields_in_hand();
+    fn assert_leaf_valid(&self) {
+        self.0.assert_fields_valid();
     }
 
     /// Refuses nothing.

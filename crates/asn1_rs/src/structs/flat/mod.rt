@@ -4,7 +4,7 @@
 //! A row of references ([`BorrowedRow`](crate::structs::row::BorrowedRow)) does the same as nested pairs, of fewer
 //! fields: the checker passes a lifetime for each of its pairs.
 
+pub(crate) mod assert_valid;
 pub(crate) mod in_der;
-pub(crate) mod in_hand;
 pub(crate) mod puts;
 pub(crate) mod rows;

@@ -1,6 +1,6 @@
 use Rattle.std.proofs.Common.{◌≡◌, ◌∙◌, ap, arith, subst, sym, List, ℕ}
 use Rattle.x690.specs.Octets.{IsOctets}
-use Rattle.x690.specs.Joined.{AreJoinedWords}
+use Rattle.x690.specs.Joined.{AreConcatenatedWords}
 use Rattle.asn1_rs.specs.Sequence.Iterator.{octets_left, TellsNoWord, TellsMemoryAlone, IsMemory}
 use Rattle.asn1_rs_uses.proofs.Collected.{collected, refused, why_refused}
 use Rattle.asn1_rs_uses.proofs.items.items_in.Goals as goal
@@ -25,8 +25,8 @@ returns-in-Err-clause-whole g c = λ j.
     ap octets_left c.into_iter-item-iterator.ensures.into_iter_gives ∙ c.new-item-items.ensures in
     let octets : IsOctets (octets_left c.into_iter-item-iterator.result) =
     subst IsOctets (sym begins) (λ k. omega (arith, c.type_inv.content k)) in
-    let joined : AreJoinedWords g.F.ReadsWords.Words (octets_left c.into_iter-item-iterator.result) =
-    subst (λ (o : List ℕ). AreJoinedWords g.F.ReadsWords.Words o) (sym begins) j in
+    let joined : AreConcatenatedWords g.F.ReadsWords.Words (octets_left c.into_iter-item-iterator.result) =
+    subst (λ (o : List ℕ). AreConcatenatedWords g.F.ReadsWords.Words o) (sym begins) j in
     let ended = refused g.F.ReadsItems.item_gives g.E.From.from_gives g.F.ReadsWords.Words g.F.ReadsWords.value
     c.into_iter-item-iterator.result c.args.content.now begins
     (TellsMemoryAlone (IsMemory g.F.ReadsWords.allocates g.E.From.from_gives))

@@ -5,13 +5,13 @@ use Rattle.asn1_rs_uses.proofs.stream.next_message.Goals as goal
 pub returns-then-may_end_within_identifier-clause-waits : goal.returns-then-may_end_within_identifier-clause-waits
 returns-then-may_end_within_identifier-clause-waits g c =
     let element = c.any_is_the_element.ensures.der c.args.buffer.now (Err c.in-Err.refusal) c.in-Err.ensures in
-    λ cut. one_awaited c.args.buffer.now c.in-Err.refusal
+    λ truncated. one_awaited c.args.buffer.now c.in-Err.refusal
     (c.answers_last.ensures.refusal c.args.buffer.now c.in-Err.refusal element)
 
 pub returns-in-Err-clause-waits : goal.returns-in-Err-clause-waits
 returns-in-Err-clause-waits g c =
     let element = c.any_is_the_element.ensures.der c.args.buffer.now (Err c.in-Err.refusal) c.in-Err.ensures in
-    λ cut. c.answers_last.ensures.refusal c.args.buffer.now c.in-Err.refusal element
+    λ truncated. c.answers_last.ensures.refusal c.args.buffer.now c.in-Err.refusal element
 
 pub returns-in-Err-clause-refused : goal.returns-in-Err-clause-refused
 returns-in-Err-clause-refused g c =

@@ -5,7 +5,7 @@ use Rattle.asn1_schema.specs.declared.fault.Fault.{Fault}
 use Rattle.asn1_schema.specs.Reading.{BeginsWord, ReadsFront, FaultHolds}
 use Rattle.asn1_schema.proofs.Depths.{fault_here}
 use Rattle.asn1_schema.proofs.SameErrors.{error_is}
-use Rattle.asn1_schema.proofs.Decoded.{not_decoded, no_depth_decodes, refused_for_good, still_cut}
+use Rattle.asn1_schema.proofs.Decoded.{not_decoded, no_depth_decodes, refused_for_good, still_truncated}
 use Rattle.asn1_schema.proofs.decode.decode.Goals as goal
 
 pub returns-in-Err-clause-fails : goal.returns-in-Err-clause-fails
@@ -28,9 +28,9 @@ returns-in-Err-clause-fails c =
       too_deep = λ is.
           let a = c.error_of.ensures.too_deep (error_is c.error_of.result errors.TooDeep is) in
           refused_for_good e table depth of octets (none (λ z. absurd (cc (z)))) a.1;
-      cut = λ n is. none (c.error_of.ensures.cut n (error_is c.error_of.result (errors.Incomplete n) is)).0;
-      incomplete = λ n is d. still_cut e table d of octets n
-          (c.error_of.ensures.cut n (error_is c.error_of.result (errors.Incomplete n) is)).1;
+      truncated = λ n is. none (c.error_of.ensures.truncated n (error_is c.error_of.result (errors.Incomplete n) is)).0;
+      incomplete = λ n is d. still_truncated e table d of octets n
+          (c.error_of.ensures.truncated n (error_is c.error_of.result (errors.Incomplete n) is)).1;
       emptied = c.clear-in-Err.ensures.items;
       within = c.settle.ensures.within;
       of = λ is. c.settle.ensures.of

@@ -10,7 +10,7 @@ returns-in-Err-clause-fails c =
     record {
       refused = λ e. fails.refused (same_error (Bor (List ℕ)) c.in-Err.error errors.Refused e);
       too_deep = λ e. fails.too_deep (same_error (Bor (List ℕ)) c.in-Err.error errors.TooDeep e);
-      cut = λ n e. fails.cut n (same_error (Bor (List ℕ)) c.in-Err.error (errors.Incomplete n) e);
+      truncated = λ n e. fails.truncated n (same_error (Bor (List ℕ)) c.in-Err.error (errors.Incomplete n) e);
       incomplete = λ n e. fails.incomplete n (same_error (Bor (List ℕ)) c.in-Err.error (errors.Incomplete n) e);
       emptied = fails.emptied;
       within = fails.within;

@@ -1,7 +1,7 @@
 use Rattle.std.proofs.Common.{◌∙◌, ap, length, length-append, arith}
 use Rattle.asn1_schema.specs.Tape.{tapes_of}
 use Rattle.asn1_schema.specs.Writing.{row_behind}
-use Rattle.asn1_schema.proofs.CutTapes.{length_before, between_places}
+use Rattle.asn1_schema.proofs.TruncatedTapes.{length_before, between_places}
 use Rattle.asn1_schema.proofs.put_rows.count_behind.Goals as goal
 
 pub returns : goal.returns

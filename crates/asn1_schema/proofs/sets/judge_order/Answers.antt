@@ -1,11 +1,11 @@
 use Rattle.std.proofs.Common.{◌≡◌, refl}
 use Rattle.asn1_schema.specs.Reading.{rules_of, parts_of}
 use Rattle.asn1_schema.proofs.Taken.{lawful_of, front_shorter}
-use Rattle.asn1_schema.proofs.TakenSets.{order_cut, order_broken, order_further}
+use Rattle.asn1_schema.proofs.TakenSets.{order_truncated, order_broken, order_further}
 use Rattle.asn1_schema.proofs.sets.judge_order.Goals as goal
 
 pub returns-in_default-clause-no : goal.returns-in_default-clause-no
-returns-in_default-clause-no c = λ a. absurd (order_cut c.args.coding c.args.octets.now c.loop-rest.last c.loop-rest.rest.now
+returns-in_default-clause-no c = λ a. absurd (order_truncated c.args.coding c.args.octets.now c.loop-rest.last c.loop-rest.rest.now
     c.loop-rest.invariant c.in_default.ensures.none (λ e. let f = c.loop-rest-test.ensures.no e in absurd (cc)) a)
 
 pub returns-then-not-may_follow-clause-no : goal.returns-then-not-may_follow-clause-no

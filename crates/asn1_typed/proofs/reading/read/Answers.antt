@@ -26,7 +26,7 @@ returns-in-Err-Incomplete c =
     let fails = c.in-Err-Incomplete.ensures.fails in (
       subst (λ table. IsNoValue c.args.coding table c.args.of c.args.octets.now) c.deref.ensures.value
           (none_in_front c.args.coding c.deref.result.now c.args.of c.args.octets.now
-          (fails.cut c.in-Err-Incomplete.field-0-0 (ap Err c.in-Err-Incomplete.field-0-is))),
+          (fails.truncated c.in-Err-Incomplete.field-0-0 (ap Err c.in-Err-Incomplete.field-0-is))),
       fails.within,
     )
 

@@ -1,11 +1,11 @@
-use Rattle.std.proofs.Common.{◌∙◌, ap, sym, subst, inl, inr, refl}
+use Rattle.std.proofs.Common.{◌∙◌, ap, sym, subst, inl, inr}
 use Rattle.std.specs.Prelude.{Err}
 use Rattle.asn1_schema.specs.Differing.{HasNone, HasOther, IsNotStrict}
 use Rattle.asn1_schema.specs.Grammar.{Word}
 use Rattle.asn1_schema.specs.Rules.{der}
 use Rattle.asn1_schema.specs.Tape.{value_of}
 use Rattle.asn1_schema.specs.Values.{Value}
-use Rattle.asn1_typed.specs.Strict.{IsByDer}
+use Rattle.asn1_typed.specs.Strict.{HasEncoding, IsByDer}
 use Rattle.asn1_typed.proofs.strict.check_typed.Goals as goal
 
 pub returns-in-Err-NotDer-clause-finds : goal.returns-in-Err-NotDer-clause-finds
@@ -30,6 +30,14 @@ returns-in-Err-Differs-clause-finds c =
     subst (λ table. IsNotStrict table 64 c.args.of c.args.input.octets.now) c.deref.ensures.value
     (c.in-Err-Differs.ensures.not_strict (λ e. let f = sym c.in-Err-Differs.field-0-is ∙ e in absurd (cc (f))))
 
+pub encoding_of-requires-clause-encoded : goal.encoding_of-requires-clause-encoded
+encoding_of-requires-clause-encoded c =
+    let other = c.in-Err-Differs.ensures.differs c.in-Err-Differs.octet (ap Err c.in-Err-Differs.field-0-is) in
+    let has : HasEncoding c.deref.result.now c.args.of c.decode_strict.new.tape.items =
+    (other.holds.other, other.kept, other.holds.strict_word, other.is) in
+    subst (λ tape. HasEncoding c.args.schema.now.nodes.items c.args.of tape) (sym c.deref-in-Err-Differs.ensures.value)
+    (subst (λ table. HasEncoding table c.args.of c.decode_strict.new.tape.items) c.deref.ensures.value has)
+
 pub returns-in-Err-Differs-clause-tells : goal.returns-in-Err-Differs-clause-tells
 returns-in-Err-Differs-clause-tells c =
     let told = c.in_ok-push_difference-in-Err-Differs.ensures in
@@ -52,13 +60,14 @@ returns-clause-finds c =
 
 pub returns-clause-tells : goal.returns-clause-tells
 returns-clause-tells c =
+    let told = c.in_ok-push_no_encoding-in-Err-NoEncoding.ensures in
     let octets = c.args.input.octets.now in
     let none = c.in-Err-NoEncoding.ensures.none (ap Err c.in-Err-NoEncoding.field-0-is) in (
-      _,
+      told.0,
       inr (inr (
-        refl,
+        told.1,
         subst (λ table. IsByDer table c.args.of octets (HasNone table 64 c.args.of)) c.deref.ensures.value
             (value_of none.kept, none.word, none.holds),
       )),
-      c.in_ok-push_no_encoding-in-Err-NoEncoding.ensures,
+      told.2,
     )

@@ -15,8 +15,8 @@ abbrev ends : List ℕ → ℕ
 ends octets = count_by (λ octet. nat_lt octet 128) octets
 
 -- one more where the last octet has bit 8
-abbrev is_cut : ℕ → ℕ
-is_cut last = cond (nat_lt last 128) 0 1
+abbrev is_truncated : ℕ → ℕ
+is_truncated last = cond (nat_lt last 128) 0 1
 
 front_length : (octet : ℕ) (pieces : List (List ℕ)) → 1 ≤ length pieces → length (in_front octet pieces) ≡ length pieces
 front_length octet [] some = absurd (omega arith)
@@ -39,7 +39,7 @@ no_end : (octet k : ℕ) → 128 ≤ octet → cond (nat_lt octet 128) 1 0 + k �
 no_end octet k h = grind (arith, nat_tests)
 
 pieces_counted : (octet : ℕ) (octets : List ℕ) →
-    length (pieces_of (octet ∷ octets)) ≡ ends (octet ∷ octets) + is_cut (get_or (octet ∷ octets) (length octets) 0)
+    length (pieces_of (octet ∷ octets)) ≡ ends (octet ∷ octets) + is_truncated (get_or (octet ∷ octets) (length octets) 0)
 pieces_counted octet [] = grind (arith, nat_tests)
 pieces_counted octet (next ∷ octets) =
     let others = pieces_counted next octets in
@@ -48,29 +48,29 @@ pieces_counted octet (next ∷ octets) =
     sum_by-cons (λ n. cond (nat_lt n 128) 1 0) octet (next ∷ octets) in
     let same : get_or (octet ∷ next ∷ octets) (length (next ∷ octets)) 0 ≡ get_or (next ∷ octets) (length octets) 0 =
     refl in
-    let cut = ap is_cut same in
+    let truncated = ap is_truncated same in
     elim (cases_lt octet 128) [
-      | inl h ↦ omega (arith, ap length (last_piece octet (next ∷ octets) h), one_end octet k h, e, cut, others)
+      | inl h ↦ omega (arith, ap length (last_piece octet (next ∷ octets) h), one_end octet k h, e, truncated, others)
       | inr h ↦ omega (
         arith,
         ap length (more_piece octet (next ∷ octets) h),
         front_length octet (pieces_of (next ∷ octets)) (some_pieces next octets),
         no_end octet k h,
         e,
-        cut,
+        truncated,
         others,
       )
     ]
 
 counted : (octets : List ℕ) (count i last : ℕ) → count ≡ ends (take i octets) → length octets ≤ i → 0 < length octets →
-    last ≡ get_or octets (length octets - 1) 0 → length (pieces_of octets) ≡ count + is_cut last
+    last ≡ get_or octets (length octets - 1) 0 → length (pieces_of octets) ≡ count + is_truncated last
 counted [] count i last e all some l = absurd (omega arith)
 counted (octet ∷ octets) count i last e all some l =
     let whole = ap ends (take_all i (octet ∷ octets) all) in
     let m : length (octet ∷ octets) - 1 ≡ length octets = omega arith in
     let at_end = l ∙ ap (λ (n : ℕ). get_or (octet ∷ octets) n 0) m in
-    pieces_counted octet octets ∙ ap (λ (n : ℕ). ends (octet ∷ octets) + is_cut n) (sym at_end)
-    ∙ ap (λ (n : ℕ). n + is_cut last) (sym (e ∙ whole))
+    pieces_counted octet octets ∙ ap (λ (n : ℕ). ends (octet ∷ octets) + is_truncated n) (sym at_end)
+    ∙ ap (λ (n : ℕ). n + is_truncated last) (sym (e ∙ whole))
 
 pub returns-in-Some-clause-count : goal.returns-in-Some-clause-count
 returns-in-Some-clause-count c =

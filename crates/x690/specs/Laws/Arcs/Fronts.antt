@@ -12,7 +12,7 @@ use Rattle.x690.specs.Laws.Digits.{HaveBit8To, weighted_sum_front, base_128_valu
 use Rattle.x690.specs.Laws.StrictIdentifiers.{power_le}
 use Rattle.x690.specs.Arcs.{in_front, pieces_of, subidentifiers, first_subidentifier, first_arc, second_arc}
 use Rattle.x690.specs.Arcs.{with_first_split, arcs_of}
-use Rattle.x690.specs.Laws.Arcs.{last_piece, more_piece, tail_bits, piece_is_cut, first_pair_is, split_but_zero}
+use Rattle.x690.specs.Laws.Arcs.{last_piece, more_piece, tail_bits, piece_is_truncated, first_pair_is, split_but_zero}
 
 -- The first piece.
 
@@ -22,7 +22,7 @@ pub whole_piece : (octets : List ℕ) → 0 < length octets → HaveBit8To (leng
 whole_piece [] some high = absurd (omega arith)
 whole_piece (octet ∷ octets) some high =
     let all = octet ∷ octets in
-    piece_is_cut octet octets high
+    piece_is_truncated octet octets high
     ∙ ap (λ (piece : List ℕ). piece ∷ []) (sym (take_all (length all) all (omega arith)))
     ∙ ap (λ (rest : List ℕ). take (length all) all ∷ pieces_of rest) (sym (drop_all (length all) all (omega arith)))
 

@@ -10,7 +10,7 @@ use Rattle.x690.specs.Identifiers.{Identifier, IsIdentifier, AreTagDigits, bit}
 use Rattle.x690.specs.Lengths.{LengthForm, definite, indefinite, IsLengthForm}
 use Rattle.x690.specs.Rules.{Rule, der_rule, allows_form}
 use Rattle.x690.specs.Elements.{IsHeader, IsDerElement, BeginsWithHeader, BeginsWithElement}
-use Rattle.x690.specs.Faults.{missing, tag_fault, length_fault, rule_fault, identifier_breach, breach_of}
+use Rattle.x690.specs.Faults.{missing, tag_fault, length_fault, rule_fault, identifier_violation, violation_of}
 use Rattle.x690.specs.Faults.{IdentifierFault, LengthFault, HeaderFault, DerElementFault, HasFault}
 use Rattle.x690.specs.Laws.Octets.{octets_front, octets_back}
 use Rattle.x690.specs.Laws.Identifiers.{tag_digits_unique, no_identifier}
@@ -188,7 +188,7 @@ header_or_has_fault rule octets o = elim (identifier_or_fault octets o) [
   | inr f ↦ inr (f.0, inl f.1)
   | inl i ↦ elim (either (rule.allows_identifier i.0)) [
     | inr n ↦ inr (
-      rule_fault identifier_breach,
+      rule_fault identifier_violation,
       inr (record { identifier = i.0; rest = i.1; id = i.2; identifier_is = i.3; is = i.4; why = inl (n, refl) }),
     )
     | inl a ↦ elim (length_or_fault i.1 (octets_back i.0 i.1 (subst IsOctets i.4 o))) [
@@ -214,7 +214,7 @@ header_or_has_fault rule octets o = elim (identifier_or_fault octets o) [
           i.4 ∙ ap (λ (ys : List ℕ). i.0 ++ ys) l.4 ∙ sym (append_assoc i.0 l.0 l.1),
         )
         | inr n ↦ inr (
-          rule_fault (breach_of l.2),
+          rule_fault (violation_of l.2),
           inr (record {
             identifier = i.0;
             rest = i.1;

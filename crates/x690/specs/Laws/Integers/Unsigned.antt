@@ -6,7 +6,7 @@ use Rattle.std.proofs.lemmas.Int.Digits.{digits_of_step, length-digits_of-le, al
 use Rattle.std.proofs.lemmas.Bool.{cases_lt}
 use Rattle.std.proofs.lemmas.Bool.Decides.{nat_tests}
 use Rattle.x690.specs.Digits.{base_256_value}
-use Rattle.x690.specs.Integers.{IsIntegerContent, HasNoLeadingZero, HasSpareZeros, HasSpareOnes, with_sign_octet}
+use Rattle.x690.specs.Integers.{IsIntegerContent, HasNoLeadingZero, HasRedundantZeros, HasRedundantOnes, with_sign_octet}
 use Rattle.x690.specs.Integers.{unsigned_octets}
 use Rattle.x690.specs.Laws.Octets.{below_octets}
 use Rattle.x690.specs.Laws.Digits.Sums.{weighted_sum_digits}
@@ -26,11 +26,11 @@ low_is_content first others below some h = record {
   value = value_low first others h;
 }
   where
-    no_zeros : (others : List ℕ) → ¬ HasSpareZeros (first ∷ others)
+    no_zeros : (others : List ℕ) → ¬ HasRedundantZeros (first ∷ others)
     no_zeros [] s = s
     no_zeros (second ∷ others) s = some s.0
 
-    no_ones : (others : List ℕ) → ¬ HasSpareOnes (first ∷ others)
+    no_ones : (others : List ℕ) → ¬ HasRedundantOnes (first ∷ others)
     no_ones [] s = s
     no_ones (second ∷ others) s = omega (arith, s.0)
 

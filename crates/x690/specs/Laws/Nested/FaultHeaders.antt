@@ -14,7 +14,7 @@ use Rattle.x690.specs.Laws.Headers.{header_two}
 use Rattle.x690.specs.Laws.Faults.{header_or_fault}
 use Rattle.x690.specs.Laws.Nested.Rows.{BeginsWithWord, row_half}
 use Rattle.x690.specs.Laws.Nested.{nested_element_half}
-use Rattle.x690.specs.Laws.Nested.Faults.{header_not_cut, header_not_opened, cut_not_opened, opened_compared}
+use Rattle.x690.specs.Laws.Nested.Faults.{header_not_truncated, header_not_opened, truncated_not_opened, opened_compared}
 use Rattle.x690.specs.Laws.Nested.Faults.{no_fault_at_word}
 
 -- where the first header has the fault none is read whole
@@ -123,13 +123,13 @@ one_count zero octets g h (inr a) (inl b) =
     absurd (header_or_fault ber_rule octets a.0.0 a.0.1 a.0.2 a.0.3 b.0.0 b.0.1 a.0.4 a.0.5)
 one_count zero octets g h (inr a) (inr b) = a.1 ∙ sym b.1
 one_count (suc depth) octets g h (inl a) (inl b) = a.1 ∙ sym b.1
-one_count (suc depth) octets g h (inl a) (inr (inl b)) = absurd (header_not_cut octets a.0.0 b.0.0 a.0.1 b.0.1)
+one_count (suc depth) octets g h (inl a) (inr (inl b)) = absurd (header_not_truncated octets a.0.0 b.0.0 a.0.1 b.0.1)
 one_count (suc depth) octets g h (inl a) (inr (inr b)) = absurd (header_not_opened depth octets b.0 a.0.0 a.0.1 b.1)
-one_count (suc depth) octets g h (inr (inl a)) (inl b) = absurd (header_not_cut octets b.0.0 a.0.0 b.0.1 a.0.1)
+one_count (suc depth) octets g h (inr (inl a)) (inl b) = absurd (header_not_truncated octets b.0.0 a.0.0 b.0.1 a.0.1)
 one_count (suc depth) octets g h (inr (inl a)) (inr (inl b)) = a.1 ∙ sym b.1
-one_count (suc depth) octets g h (inr (inl a)) (inr (inr b)) = absurd (cut_not_opened depth octets b.0 a.0.0 a.0.1 b.1)
+one_count (suc depth) octets g h (inr (inl a)) (inr (inr b)) = absurd (truncated_not_opened depth octets b.0 a.0.0 a.0.1 b.1)
 one_count (suc depth) octets g h (inr (inr a)) (inl b) = absurd (header_not_opened depth octets a.0 b.0.0 b.0.1 a.1)
-one_count (suc depth) octets g h (inr (inr a)) (inr (inl b)) = absurd (cut_not_opened depth octets a.0 b.0.0 b.0.1 a.1)
+one_count (suc depth) octets g h (inr (inr a)) (inr (inl b)) = absurd (truncated_not_opened depth octets a.0 b.0.0 b.0.1 a.1)
 one_count (suc depth) octets g h (inr (inr a)) (inr (inr b)) =
     elim (opened_compared depth octets a.0 b.0 a.1 b.1) [
       | inl r ↦

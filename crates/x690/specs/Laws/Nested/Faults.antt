@@ -2,36 +2,36 @@
 use Rattle.std.proofs.Common.{◌≡◌, ℕ, zero, suc, List, [], ◌++◌, length, refl, sym, ap, ◌∙◌, subst, inl, inr, ◌⊎◌}
 use Rattle.std.proofs.Common.{append_assoc, append-nil}
 use Rattle.std.specs.List.{concat}
-use Rattle.x690.specs.Identifiers.{IsCutIdentifier}
+use Rattle.x690.specs.Identifiers.{IsTruncatedIdentifier}
 use Rattle.x690.specs.Lengths.{definite, indefinite}
 use Rattle.x690.specs.Rules.{ber_rule}
 use Rattle.x690.specs.Elements.{Parts, IsDefiniteElement}
 use Rattle.x690.specs.Faults.{Fault, missing, tag_fault, length_fault, rule_fault, depth_fault, HeaderFault}
-use Rattle.x690.specs.Faults.{IsCutContent, SpeaksOf}
+use Rattle.x690.specs.Faults.{IsTruncatedContent, SpeaksOf}
 use Rattle.x690.specs.Nested.{IsIndefiniteElement, IsNestedElement, IsWord, IsOpened, ElementFault, EndsInIdentifier}
 use Rattle.x690.specs.Nested.{end_of_contents}
 use Rattle.x690.specs.Laws.Headers.{header_unique, header_peel, not_both_forms}
-use Rattle.x690.specs.Laws.Faults.{no_header, no_content, CountsSome, header_fault_counts, cut_content_counts}
-use Rattle.x690.specs.Laws.Faults.{speaks_now, header_or_fault, one_header_fault, one_cut_content}
+use Rattle.x690.specs.Laws.Faults.{no_header, no_content, CountsSome, header_fault_counts, truncated_content_counts}
+use Rattle.x690.specs.Laws.Faults.{speaks_now, header_or_fault, one_header_fault, one_truncated_content}
 use Rattle.x690.specs.Laws.Nested.Rows.{BeginsWithWord, rows_compared, row_goes_on}
 use Rattle.x690.specs.Laws.Nested.{end_parts, end_element, definite_is_nested, word_end_whole, words_are_unique}
 use Rattle.x690.specs.Laws.Nested.{nested_header}
 
 -- what speaks of octets that end within an identifier speaks where they end so by less
-speaks_within : (cut less : Type 0) (fault : Fault) (x : List ℕ) → (less → cut) → SpeaksOf cut fault x →
+speaks_within : (truncated less : Type 0) (fault : Fault) (x : List ℕ) → (less → truncated) → SpeaksOf truncated fault x →
     SpeaksOf less fault x
-speaks_within cut less (missing n) x f s = s
-speaks_within cut less tag_fault x f (inl s) = inl s
-speaks_within cut less tag_fault x f (inr s) = inr (λ t. s (f t))
-speaks_within cut less length_fault x f s = s
-speaks_within cut less (rule_fault b) x f s = s
-speaks_within cut less depth_fault x f s = s
+speaks_within truncated less (missing n) x f s = s
+speaks_within truncated less tag_fault x f (inl s) = inl s
+speaks_within truncated less tag_fault x f (inr s) = inr (λ t. s (f t))
+speaks_within truncated less length_fault x f s = s
+speaks_within truncated less (rule_fault b) x f s = s
+speaks_within truncated less depth_fault x f s = s
 
 -- a front that is an identifier cut short is such an end
-cut_ends : (depth : ℕ) (octets : List ℕ) → IsCutIdentifier octets → EndsInIdentifier depth octets
+truncated_ends : (depth : ℕ) (octets : List ℕ) → IsTruncatedIdentifier octets → EndsInIdentifier depth octets
 unfolding EndsInIdentifier
-cut_ends zero octets c = c
-cut_ends (suc depth) octets c = inl c
+truncated_ends zero octets c = c
+truncated_ends (suc depth) octets c = inl c
 
 opened_ends : (depth : ℕ) (octets rest : List ℕ) → IsOpened depth octets rest → EndsInIdentifier depth rest →
     EndsInIdentifier (suc depth) octets
@@ -43,12 +43,12 @@ no_start : (depth : ℕ) (octets x o y : List ℕ) (p : Parts) (h : ℕ) (fault 
 no_start depth octets x o y p h fault why s b e =
     let w = nested_header depth o p h b in
     no_header ber_rule octets x w.0 (w.1 ++ y) p.id p.form fault why
-    (speaks_within (EndsInIdentifier depth octets) (IsCutIdentifier octets) fault x (cut_ends depth octets) s) w.2
+    (speaks_within (EndsInIdentifier depth octets) (IsTruncatedIdentifier octets) fault x (truncated_ends depth octets) s) w.2
     (e ∙ ap (λ (ys : List ℕ). ys ++ y) w.3 ∙ append_assoc w.0 w.1 y)
 
-cut_not_indefinite : (Word : List ℕ → ℕ → Type 0) (octets x o y : List ℕ) (p : Parts) (h : ℕ) (fault : Fault) →
-    IsCutContent ber_rule octets fault → IsIndefiniteElement Word o p h → octets ++ x ≡ o ++ y → ⊥
-cut_not_indefinite Word octets x o y p h fault why b e =
+truncated_not_indefinite : (Word : List ℕ → ℕ → Type 0) (octets x o y : List ℕ) (p : Parts) (h : ℕ) (fault : Fault) →
+    IsTruncatedContent ber_rule octets fault → IsIndefiniteElement Word o p h → octets ++ x ≡ o ++ y → ⊥
+truncated_not_indefinite Word octets x o y p h fault why b e =
     let u = header_peel ber_rule ber_rule why.header b.header why.rest (p.content ++ end_of_contents) x y why.id p.id
     (definite why.counted) p.form why.header_is b.header_is
     (ap (λ (ys : List ℕ). ys ++ x) (sym why.is) ∙ e ∙ ap (λ (ys : List ℕ). ys ++ y) b.is) in
@@ -86,7 +86,7 @@ no_element (suc depth) octets x o y p h fault (inl why) s b e = no_start (suc de
 no_element (suc depth) octets x o y p h fault (inr (inl why)) s (inl b) e =
     no_content ber_rule (EndsInIdentifier (suc depth) octets) octets x o y p fault why s b.0 e
 no_element (suc depth) octets x o y p h fault (inr (inl why)) s (inr b) e =
-    cut_not_indefinite (IsWord depth) octets x o y p h fault why b.1 e
+    truncated_not_indefinite (IsWord depth) octets x o y p h fault why b.1 e
 no_element (suc depth) octets x o y p h fault (inr (inr why)) s (inl b) e =
     opened_not_definite depth octets why.0 x o y p why.1 b.0 e
 no_element (suc depth) octets x o y p h fault (inr (inr why)) s (inr b) e =
@@ -105,7 +105,7 @@ unfolding ElementFault
 element_fault_counts zero octets fault (inl why) = header_fault_counts ber_rule octets fault why
 element_fault_counts zero octets fault (inr why) = subst CountsSome (sym why.1) tt
 element_fault_counts (suc depth) octets fault (inl why) = header_fault_counts ber_rule octets fault why
-element_fault_counts (suc depth) octets fault (inr (inl why)) = cut_content_counts ber_rule octets fault why
+element_fault_counts (suc depth) octets fault (inr (inl why)) = truncated_content_counts ber_rule octets fault why
 element_fault_counts (suc depth) octets fault (inr (inr why)) = element_fault_counts depth why.0 fault why.2
 
 -- where an element of the depth begins the octets there is no fault
@@ -117,9 +117,9 @@ element_or_fault depth octets o y p h fault why b e =
     (append-nil octets ∙ e)
 
 -- Octets with a fault of their header have no contents octets that are cut.
-pub header_not_cut : (octets : List ℕ) (f g : Fault) → HeaderFault ber_rule octets f →
-    IsCutContent ber_rule octets g → ⊥
-header_not_cut octets f g p q =
+pub header_not_truncated : (octets : List ℕ) (f g : Fault) → HeaderFault ber_rule octets f →
+    IsTruncatedContent ber_rule octets g → ⊥
+header_not_truncated octets f g p q =
     header_or_fault ber_rule octets q.header q.rest q.id (definite q.counted) f p q.header_is q.is
 
 -- They have no header of the indefinite form.
@@ -129,9 +129,9 @@ header_not_opened depth octets rest f p q =
     header_or_fault ber_rule octets q.header (concat q.words ++ rest) q.id indefinite f p q.header_is q.is
 
 -- Octets whose contents octets are cut have no header of the indefinite form.
-pub cut_not_opened : (depth : ℕ) (octets rest : List ℕ) (f : Fault) → IsCutContent ber_rule octets f →
+pub truncated_not_opened : (depth : ℕ) (octets rest : List ℕ) (f : Fault) → IsTruncatedContent ber_rule octets f →
     IsOpened depth octets rest → ⊥
-cut_not_opened depth octets rest f p q =
+truncated_not_opened depth octets rest f p q =
     let u = header_unique ber_rule ber_rule p.header q.header p.rest (concat q.words ++ rest) p.id q.id
     (definite p.counted) indefinite p.header_is q.header_is (sym p.is ∙ q.is) in
     not_both_forms p.counted (definite p.counted) indefinite refl refl u.2
@@ -166,13 +166,13 @@ one_element_fault zero octets f g (inr p) (inl q) =
     absurd (header_or_fault ber_rule octets p.0.0 p.0.1 p.0.2 p.0.3 g q p.0.4 p.0.5)
 one_element_fault zero octets f g (inr p) (inr q) = p.1 ∙ sym q.1
 one_element_fault (suc depth) octets f g (inl p) (inl q) = one_header_fault ber_rule octets f g p q
-one_element_fault (suc depth) octets f g (inl p) (inr (inl q)) = absurd (header_not_cut octets f g p q)
+one_element_fault (suc depth) octets f g (inl p) (inr (inl q)) = absurd (header_not_truncated octets f g p q)
 one_element_fault (suc depth) octets f g (inl p) (inr (inr q)) = absurd (header_not_opened depth octets q.0 f p q.1)
-one_element_fault (suc depth) octets f g (inr (inl p)) (inl q) = absurd (header_not_cut octets g f q p)
-one_element_fault (suc depth) octets f g (inr (inl p)) (inr (inl q)) = one_cut_content ber_rule octets f g p q
-one_element_fault (suc depth) octets f g (inr (inl p)) (inr (inr q)) = absurd (cut_not_opened depth octets q.0 f p q.1)
+one_element_fault (suc depth) octets f g (inr (inl p)) (inl q) = absurd (header_not_truncated octets g f q p)
+one_element_fault (suc depth) octets f g (inr (inl p)) (inr (inl q)) = one_truncated_content ber_rule octets f g p q
+one_element_fault (suc depth) octets f g (inr (inl p)) (inr (inr q)) = absurd (truncated_not_opened depth octets q.0 f p q.1)
 one_element_fault (suc depth) octets f g (inr (inr p)) (inl q) = absurd (header_not_opened depth octets p.0 g q p.1)
-one_element_fault (suc depth) octets f g (inr (inr p)) (inr (inl q)) = absurd (cut_not_opened depth octets p.0 g q p.1)
+one_element_fault (suc depth) octets f g (inr (inr p)) (inr (inl q)) = absurd (truncated_not_opened depth octets p.0 g q p.1)
 one_element_fault (suc depth) octets f g (inr (inr p)) (inr (inr q)) =
     elim (opened_compared depth octets p.0 q.0 p.1 q.1) [
       | inl r ↦ one_element_fault depth p.0 f g p.2 (subst (λ (ys : List ℕ). ElementFault depth ys g) (sym r.1) q.2)

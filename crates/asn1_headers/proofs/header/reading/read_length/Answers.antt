@@ -3,7 +3,7 @@ use Rattle.std.proofs.Common.{get_or}
 use Rattle.x690.specs.Lengths.{IsLength}
 use Rattle.x690.specs.Faults.{missing, length_fault}
 use Rattle.x690.specs.Laws.Lengths.{first_split, long_split}
-use Rattle.asn1_headers.proofs.Reading.{no_length, cut_length, long_octets}
+use Rattle.asn1_headers.proofs.Reading.{no_length, truncated_length, long_octets}
 use Rattle.asn1_headers.proofs.header.reading.read_length.Goals as goal
 use Rattle.asn1_headers.proofs.header.reading.read_length.Goals.{After-base_256_number}
 
@@ -36,7 +36,7 @@ returns-then-rest-count-clause-err c =
     let e = first_split c.args.bytes.now rest c.in-len1-up.len_at_least refl in
     λ at. (
       missing (count - length rest),
-      cut_length c.args.bytes.now rest count (count - length rest) e (omega arith) (omega (arith, c.type_inv.bytes 0))
+      truncated_length c.args.bytes.now rest count (count - length rest) e (omega arith) (omega (arith, c.type_inv.bytes 0))
           (omega arith) (omega arith),
       refl,
     )

@@ -20,21 +20,21 @@ up_to P i below at k h = either (eq-or-lt_of_le (omega (arith, h)))
     either (inr less) = below k less
 
 -- the string at the front of what is left, and what is behind it
-record Cut (strings : List (List ℕ)) (i n : ℕ) (rest : List ℕ) : Type 0 where
+record Truncated (strings : List (List ℕ)) (i n : ℕ) (rest : List ℕ) : Type 0 where
   within : i < length strings
   front : take n rest ≡ get_or strings i []
   back : drop n rest ≡ concat (drop (i + 1) strings)
 
-cut_at : (strings : List (List ℕ)) (lengths : List ℕ) (i n : ℕ) (rest : List ℕ) → lengths ≡ map length strings →
+truncated_at : (strings : List (List ℕ)) (lengths : List ℕ) (i n : ℕ) (rest : List ℕ) → lengths ≡ map length strings →
     i < length lengths → rest ≡ concat (drop i strings) → n ≡ min (get_or lengths i 0) (length rest) →
-    Cut strings i n rest
-cut_at strings lengths i n rest e within left is =
+    Truncated strings i n rest
+truncated_at strings lengths i n rest e within left is =
     let at = length_at strings lengths i e within in
-    let cut : n ≡ min (length (get_or strings i [])) (length rest) = is ∙ ap (λ m. min m (length rest)) at.1 in
+    let truncated : n ≡ min (length (get_or strings i [])) (length rest) = is ∙ ap (λ m. min m (length rest)) at.1 in
     record {
       within = at.0;
-      front = piece_front strings i at.0 rest left n cut;
-      back = piece_back strings i at.0 rest left n cut;
+      front = piece_front strings i at.0 rest left n truncated;
+      back = piece_back strings i at.0 rest left n truncated;
     }
 
 none_before_empty : (string : List ℕ) → IsBeforeOrSame [] string
@@ -54,14 +54,14 @@ loop-length-preserved c = λ strings e.
     let i = c.loop-length.length-index in
     let rest = c.loop-length.rest.now in
     let held = c.loop-length.invariant strings e in
-    let cut = cut_at strings c.args.lengths.now i c.min.result rest e.1 c.loop-length-test.true held.1 c.min.ensures in
-    let front : c.split_at.result.0.now ≡ get_or strings i [] = c.split_at.ensures.front ∙ cut.front in
+    let truncated = truncated_at strings c.args.lengths.now i c.min.result rest e.1 c.loop-length-test.true held.1 c.min.ensures in
+    let front : c.split_at.result.0.now ≡ get_or strings i [] = c.split_at.ensures.front ∙ truncated.front in
     let order : IsBeforeOrSame c.loop-length.last.now c.split_at.result.0.now =
     ap is_lt (sym c.cmp.ensures) ∙ sym c.is_lt.ensures ∙ c.if-is_lt.false in
     let before = subst (λ x. IsBeforeOrSame x (get_or strings i [])) held.0
     (subst (λ y. IsBeforeOrSame c.loop-length.last.now y) front order) in (
       front ∙ sym (shifted strings i),
-      c.split_at.ensures.back ∙ cut.back,
+      c.split_at.ensures.back ∙ truncated.back,
       up_to (λ k. IsBeforeOrSame (get_or ([] ∷ strings) k []) (get_or strings k [])) i held.2 before,
     )
 
@@ -70,13 +70,13 @@ returns-then-is_lt c = λ strings e.
     let i = c.loop-length.length-index in
     let rest = c.loop-length.rest.now in
     let held = c.loop-length.invariant strings e in
-    let cut = cut_at strings c.args.lengths.now i c.min.result rest e.1 c.loop-length-test.true held.1 c.min.ensures in
-    let front : c.split_at.result.0.now ≡ get_or strings i [] = c.split_at.ensures.front ∙ cut.front in
+    let truncated = truncated_at strings c.args.lengths.now i c.min.result rest e.1 c.loop-length-test.true held.1 c.min.ensures in
+    let front : c.split_at.result.0.now ≡ get_or strings i [] = c.split_at.ensures.front ∙ truncated.front in
     let less : is_lt (dictionary_order c.split_at.result.0.now c.loop-length.last.now) ≡ true =
     ap is_lt (sym c.cmp.ensures) ∙ sym c.is_lt.ensures ∙ c.if-is_lt.true in (
       λ t. absurd (cc),
       λ up.
-          let before = ascends_at strings i up cut.within in
+          let before = ascends_at strings i up truncated.within in
           sym (subst (λ x. IsBeforeOrSame x c.split_at.result.0.now) (sym held.0)
           (subst (λ y. IsBeforeOrSame (get_or ([] ∷ strings) i []) y) (sym front) before)) ∙ less,
     )

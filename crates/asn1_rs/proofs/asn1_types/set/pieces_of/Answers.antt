@@ -8,17 +8,17 @@ loop-length-preserved c = λ strings e.
     let at = length_at strings c.args.lengths.now c.loop-length.length-index
     e.1 c.loop-length-test.true in
     let held = c.loop-length.invariant strings e in
-    let cut : c.min.result ≡
+    let truncated : c.min.result ≡
     min (length (get_or strings c.loop-length.length-index [])) (length c.loop-length.rest.now) =
     c.min.ensures ∙ ap (λ n. min n (length c.loop-length.rest.now)) at.1 in (
       rw c.in_ok-push.ensures.items (rw (map-append (λ s. s.now) c.loop-length.pieces.items (_ ∷ []))
           (rw (take_more strings c.loop-length.length-index [] at.0) (rw (
             held.0,
             c.split_at.ensures.front,
-            piece_front strings c.loop-length.length-index at.0 c.loop-length.rest.now held.1 c.min.result cut,
+            piece_front strings c.loop-length.length-index at.0 c.loop-length.rest.now held.1 c.min.result truncated,
           ) refl))),
       c.split_at.ensures.back
-          ∙ piece_back strings c.loop-length.length-index at.0 c.loop-length.rest.now held.1 c.min.result cut,
+          ∙ piece_back strings c.loop-length.length-index at.0 c.loop-length.rest.now held.1 c.min.result truncated,
     )
 
 pub returns : goal.returns

@@ -1,4 +1,4 @@
-use Rattle.asn1_rs.specs.Laws.Faults.{der_header_first, der_cuts}
+use Rattle.asn1_rs.specs.Laws.Faults.{der_header_first, der_truncations}
 use Rattle.asn1_rs.specs.Lists.{ListTakes}
 use Rattle.asn1_rs.specs.Traits.{OfParts, PassesAll}
 use Rattle.asn1_rs.proofs.laws.faults.faults_of_lists_come_first.Goals as goal
@@ -7,6 +7,6 @@ pub returns-clause-header : goal.returns-clause-header
 returns-clause-header g c = der_header_first PassesAll (OfParts (ListTakes
     (g.F.EncodingForm.form_gives g.L.Tagged.TAG.0) g.L.FromItems.holds g.T.FromDer.der_gives g.E.From.from_gives)) _
 
-pub returns-clause-cut : goal.returns-clause-cut
-returns-clause-cut g c = der_cuts PassesAll (OfParts (ListTakes (g.F.EncodingForm.form_gives g.L.Tagged.TAG.0)
+pub returns-clause-truncated : goal.returns-clause-truncated
+returns-clause-truncated g c = der_truncations PassesAll (OfParts (ListTakes (g.F.EncodingForm.form_gives g.L.Tagged.TAG.0)
     g.L.FromItems.holds g.T.FromDer.der_gives g.E.From.from_gives)) g.E.From.from_gives

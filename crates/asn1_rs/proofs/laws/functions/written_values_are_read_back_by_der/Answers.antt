@@ -1,5 +1,5 @@
 use Rattle.std.proofs.Common.{rules}
-use Rattle.x690.specs.Identifiers.{IsCutIdentifier}
+use Rattle.x690.specs.Identifiers.{IsTruncatedIdentifier}
 use Rattle.asn1_rs.specs.Laws.Words.{read_back}
 use Rattle.asn1_rs.specs.Laws.Forms.{der_strict}
 use Rattle.asn1_rs.specs.ToDer.{whole_octets}
@@ -7,7 +7,7 @@ use Rattle.asn1_rs.proofs.laws.functions.written_values_are_read_back_by_der.Goa
 
 pub returns : goal.returns
 returns g c = λ x input rest answer octets d fits e gives.
-    read_back IsCutIdentifier g.T.Grammar.grammar.Form g.T.Grammar.grammar.Der g.T.Grammar.grammar.value _
+    read_back IsTruncatedIdentifier g.T.Grammar.grammar.Form g.T.Grammar.grammar.Der g.T.Grammar.grammar.value _
     g.met.T.LawfulItem.lawful_item.one_equality g.met.T.LawfulItem.lawful_item.strict_der
     g.met.T.LawfulItem.lawful_item.der_one input answer
     ((g.met.T.LawfulDer c.lifetimes (search rules)).der_exact input answer octets gives)

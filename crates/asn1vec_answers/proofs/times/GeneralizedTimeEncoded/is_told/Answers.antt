@@ -14,7 +14,7 @@ returns-clause-written c = let m = moment_of c.args.self.now.0 in
 pub returns-clause-refused : goal.returns-clause-refused
 returns-clause-refused c = let m = moment_of c.args.self.now.0 in
     unless_refused (generalized_time_refused m) InvalidDateTime (leaf_octets generalized_time_leaf m)
-    (λ _. generalized_few m c.value_in_hand.ensures.millisecond)
+    (λ _. generalized_few m c.assert_value_valid.ensures.millisecond)
 
 pub returns-clause-own : goal.returns-clause-own
 returns-clause-own c = let m = moment_of c.args.self.now.0 in

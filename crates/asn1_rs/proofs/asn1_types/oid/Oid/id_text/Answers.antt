@@ -16,7 +16,7 @@ returns-clause-room c = text_fits (is_relative c.args.self.now) (oid_octets c.ar
 pub unwrap-requires : goal.unwrap-requires
 unwrap-requires c =
     let x = c.args.self.now in
-    let are : IsOctets (oid_octets x) = rw c.as_bytes.ensures at c.octets_in_hand.ensures in
+    let are : IsOctets (oid_octets x) = rw c.as_bytes.ensures at c.assert_octets_valid.ensures in
     let put = rw c.in_ok-end.was at c.put_text.ensures in
     let text : IsUtf8 (take c.in_ok-end.end c.put_text.new.out) =
     subst IsUtf8 (sym put.2) (IsUtf8-from_ascii _ (text_ascii (is_relative x) (oid_octets x) are)) in

@@ -29,7 +29,7 @@ front end len out rest text within room e =
 pub unwrap-requires : goal.unwrap-requires
 unwrap-requires c =
     let x = c.args.oid.now in
-    let are : IsOctets (oid_octets x) = rw c.as_bytes-octets.ensures at c.octets_in_hand.ensures in
+    let are : IsOctets (oid_octets x) = rw c.as_bytes-octets.ensures at c.assert_octets_valid.ensures in
     let put = c.in-Some.ensures in
     let items : c.truncate.new.self.items ≡ id_text (is_relative x) (oid_octets x) =
     c.truncate.ensures.items

@@ -8,14 +8,14 @@ use Rattle.asn1_rs.proofs.asn1_types.sequence.iterator.walks_take_words.Goals as
 pub returns-clause-calls : goal.returns-clause-calls
 returns-clause-calls g c = λ s t answers o y.
     lawful_walk _ g.E.From.from_gives g.F.ReadsWords.Words g.F.ReadsWords.value g.F.ReadsWords.allocates
-    g.F.ReadsWords.IsCut (g.met.F.ReadsWords c.lifetimes (search rules)).exact.one_word IsOctets octets_kept
+    g.F.ReadsWords.IsTruncated (g.met.F.ReadsWords c.lifetimes (search rules)).exact.one_word IsOctets octets_kept
     (g.met.F.ReadsWords c.lifetimes (search rules)).exact.takes answers (octets_left s) (octets_left t) o
     (octets_walked g.F.ReadsItems.item_gives g.E.From.from_gives s t answers y)
 
 pub returns-clause-whole : goal.returns-clause-whole
 returns-clause-whole g c = λ s t answers o j y.
     whole_walk _ g.E.From.from_gives g.F.ReadsWords.Words g.F.ReadsWords.value g.F.ReadsWords.allocates
-    g.F.ReadsWords.IsCut (g.met.F.ReadsWords c.lifetimes (search rules)).exact.one_word IsOctets octets_kept
+    g.F.ReadsWords.IsTruncated (g.met.F.ReadsWords c.lifetimes (search rules)).exact.one_word IsOctets octets_kept
     (g.met.F.ReadsWords c.lifetimes (search rules)).exact.takes answers (octets_left s) (octets_left t) o j
     (octets_walked g.F.ReadsItems.item_gives g.E.From.from_gives s t answers y)
 
@@ -23,14 +23,14 @@ pub returns-clause-run : goal.returns-clause-run
 returns-clause-run g c = λ p o.
     run_walked g.F.ReadsItems.item_gives g.E.From.from_gives g.F.ReadsWords.Words g.F.ReadsWords.value _ p
     (λ left. lawful_walk _ g.E.From.from_gives g.F.ReadsWords.Words g.F.ReadsWords.value g.F.ReadsWords.allocates
-    g.F.ReadsWords.IsCut (g.met.F.ReadsWords c.lifetimes (search rules)).exact.one_word IsOctets octets_kept
+    g.F.ReadsWords.IsTruncated (g.met.F.ReadsWords c.lifetimes (search rules)).exact.one_word IsOctets octets_kept
     (g.met.F.ReadsWords c.lifetimes (search rules)).exact.takes p.items (octets_left p.from) left o)
 
 pub returns-clause-whole_run : goal.returns-clause-whole_run
 returns-clause-whole_run g c = λ p o j.
     run_walked g.F.ReadsItems.item_gives g.E.From.from_gives g.F.ReadsWords.Words g.F.ReadsWords.value _ p
     (λ left. whole_walk _ g.E.From.from_gives g.F.ReadsWords.Words g.F.ReadsWords.value g.F.ReadsWords.allocates
-    g.F.ReadsWords.IsCut (g.met.F.ReadsWords c.lifetimes (search rules)).exact.one_word IsOctets octets_kept
+    g.F.ReadsWords.IsTruncated (g.met.F.ReadsWords c.lifetimes (search rules)).exact.one_word IsOctets octets_kept
     (g.met.F.ReadsWords c.lifetimes (search rules)).exact.takes p.items (octets_left p.from) left o j)
 
 pub returns-clause-asks_no_memory : goal.returns-clause-asks_no_memory

@@ -1,4 +1,4 @@
-use Rattle.asn1_rs.specs.Laws.InHand.{members_values}
+use Rattle.asn1_rs.specs.Laws.AssertValid.{members_values}
 use Rattle.asn1_rs.proofs.kinds.collections.AnyLawfulItemBySetKindOnce.value_by_kind.Goals as goal
 
 pub returns : goal.returns

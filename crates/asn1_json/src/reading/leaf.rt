@@ -1,0 +1,440 @@
+//! Values without parts, from JSON.
+ghost use Rattle.std.specs.Prelude.{ℤ, Bool, [], ◌≡◌, ◌<◌, ◌++◌, true, Some, IfOk, IfSome, MatchOption, MatchResult, OnOk, length};
+ghost use Rattle.x690.specs.Digits.{twos_complement_value};
+ghost use Rattle.x690.specs.Strict.{header_octets};
+ghost use Rattle.std.specs.declared.vec.Vec.{Vec};
+ghost use Rattle.std.specs.declared.alloc.Global.{Global};
+ghost use Rattle.json.specs.Json.{string};
+ghost use Rattle.json.specs.Value.{value_view};
+ghost use Rattle.asn1_schema.specs.declared.schema.Kind.TheVariants as kinds;
+ghost use Rattle.asn1_schema.specs.Sound.{is_sound};
+ghost use Rattle.asn1_schema.specs.Tape.{leaf_mark, mark, marks};
+ghost use Rattle.asn1_schema.specs.Values.{Leaf, Value as SpecValue, leaf};
+ghost use Rattle.asn1_json.specs.DenotedLeaves.{DenotesIdentifier, number_named};
+ghost use Rattle.asn1_json.specs.Made.{tape_of_value};
+ghost use Rattle.asn1_json.specs.Outcomes.{DenotesSimple, HasWord, IsElementItem, Makes, Reads};
+ghost use Rattle.asn1_json.specs.Types.{labels_at};
+ghost use Rattle.asn1_json.specs.declared.reading.trail.Fault.TheVariants as faults;
+
+use crate::leaves::element;
+use crate::reading::arcs::{has_arcs, identifier_content};
+use crate::reading::bits::{bits_of, hexadecimal};
+use crate::reading::characters::{character_octets, text_octets};
+use crate::reading::integers::integer_content;
+use crate::reading::trail::{Fault, Reason, Trail};
+use crate::types::Types;
+use asn1_headers::buffer::DerBuffer;
+use asn1_headers::der::element_by_der;
+use asn1_schema::encode::{EncodeError, encode_der};
+use asn1_schema::laws::tapes_begin_with_one_value;
+use asn1_schema::owned::OwnedTape;
+use asn1_schema::schema::{Kind, TextKind, TimeKind};
+use asn1_schema::tape::Item;
+use json::Value;
+use std::alloc::{AllocError, Global};
+use x690::signed::{signed_into, signed_number};
+
+/// What JSON is read by.
+#[derive(Debug, Clone, Copy)]
+pub(super) struct By<'s, 'n> {
+    /// Where memory comes from.
+    pub(super) alloc: Global,
+    /// The table, and the names beside it.
+    pub(super) types: Types<'s, 'n>,
+    /// Elements of the encoding may nest so deep.
+    pub(super) depth: usize,
+}
+
+/// Tells whether a tape is that of a value of a type that has a strict encoding.
+pub(super) fn judge(
+    by: By<'_, '_>,
+    of: usize,
+    tape: &[Item<'_>],
+    trail: &mut Trail,
+) -> Result<(), Fault>
+    requires { is_sound by.types.table.now ≡ true }
+    ensures { (v : SpecValue) → marks tape.now ≡ tape_of_value v → MatchResult result
+        (λ _. HasWord by.entry.types.table.now by.entry.depth of v)
+        (λ fault. fault ≡ faults.Refused →
+        HasWord by.entry.types.table.now by.entry.depth of v → ⊥) }
+{
+    tapes_begin_with_one_value();
+    let mut buf = DerBuffer::new(by.alloc);
+    match encode_der(by.types.table, of, by.depth, tape, &mut buf) {
+        Ok(()) => Ok(()),
+        Err(EncodeError::OutOfMemory) => Err(Fault::Memory),
+        Err(EncodeError::Refused) => Err(trail.refused(of, Reason::Value)),
+    }
+}
+
+/// Puts a value without parts on a tape, where it is one of the type that has a strict encoding.
+fn put(
+    by: By<'_, '_>,
+    of: usize,
+    item: Item<'_>,
+    made: &mut OwnedTape,
+    trail: &mut Trail,
+) -> Result<(), Fault>
+    requires { is_sound by.types.table.now ≡ true }
+    ensures { (l : Leaf) → mark item.entry ≡ leaf_mark l → Reads tape_of_value (λ v. v ≡ leaf l)
+        (HasWord by.entry.types.table.now by.entry.depth of) made.old made.new result }
+{
+    match judge(by, of, &[item], trail) {
+        Ok(()) => {
+            made.push(&item)?;
+            Ok(())
+        }
+        Err(fault) => Err(fault),
+    }
+}
+
+/// A truth value.
+fn read_boolean(
+    by: By<'_, '_>,
+    of: usize,
+    value: &Value<'_>,
+    made: &mut OwnedTape,
+    trail: &mut Trail,
+) -> Result<(), Fault>
+    requires sound { is_sound by.types.table.now ≡ true }
+    ensures { OnOk result (Makes (DenotesSimple [] kinds.Boolean
+        (value_view value.now)) made.old made.new) }
+{
+    match value {
+        Value::Bool(truth) => put(by, of, Item::Boolean(*truth), made, trail),
+        _ => Err(trail.refused(of, Reason::Boolean)),
+    }
+}
+
+/// No value.
+fn read_null(
+    by: By<'_, '_>,
+    of: usize,
+    value: &Value<'_>,
+    made: &mut OwnedTape,
+    trail: &mut Trail,
+) -> Result<(), Fault>
+    requires sound { is_sound by.types.table.now ≡ true }
+    ensures { OnOk result (Makes (DenotesSimple [] kinds.Null
+        (value_view value.now)) made.old made.new) }
+{
+    match value {
+        Value::Null => put(by, of, Item::Null, made, trail),
+        _ => Err(trail.refused(of, Reason::Null)),
+    }
+}
+
+/// An integer.
+fn read_integer(
+    by: By<'_, '_>,
+    of: usize,
+    value: &Value<'_>,
+    made: &mut OwnedTape,
+    trail: &mut Trail,
+) -> Result<(), Fault>
+    requires sound { is_sound by.types.table.now ≡ true }
+    ensures { OnOk result (Makes (DenotesSimple [] kinds.Integer
+        (value_view value.now)) made.old made.new) }
+{
+    let Value::Number(text) = value else {
+        return Err(trail.refused(of, Reason::Integer));
+    };
+    match integer_content(by.alloc, text)? {
+        Some(content) => put(by, of, Item::Integer(&content), made, trail),
+        None => Err(trail.refused(of, Reason::Integer)),
+    }
+}
+
+/// Whether contents octets say the number that a name stands for.
+fn are_named(types: Types<'_, '_>, at: usize, name: &str, octets: &[u8]) -> bool
+    ensures { result ≡ true → number_named (labels_at types.entry.names.now (Some at)) name.now ≡
+        Some (twos_complement_value octets.now) }
+{
+    let Some(number) = types.number(at, name) else {
+        return false;
+    };
+    match signed_number(octets, 16) {
+        Some(said) => said == number,
+        None => false,
+    }
+}
+
+/// A listed number by its name.
+fn read_name(
+    by: By<'_, '_>,
+    of: usize,
+    at: usize,
+    name: &str,
+    made: &mut OwnedTape,
+    trail: &mut Trail,
+) -> Result<(), Fault>
+    requires sound { is_sound by.types.table.now ≡ true }
+    ensures { (numbers : Vec ℤ Global) (extensible : Bool) → OnOk result (Makes (DenotesSimple
+        (labels_at by.entry.types.names.now (Some at)) (kinds.Enumerated numbers extensible)
+        (string name.now)) made.old made.new) }
+{
+    let Some(number) = by.types.number(at, name) else {
+        return Err(trail.refused(of, Reason::Listed));
+    };
+    let mut content = [0; 17];
+    let start = signed_into(number, &mut content);
+    let octets = &content[start..];
+    if !are_named(by.types, at, name, octets) {
+        return Err(trail.refused(of, Reason::Listed));
+    }
+    put(by, of, Item::Enumerated(octets), made, trail)
+}
+
+/// A listed number: by its name, or as a number.
+fn read_listed(
+    by: By<'_, '_>,
+    of: usize,
+    at: usize,
+    value: &Value<'_>,
+    made: &mut OwnedTape,
+    trail: &mut Trail,
+) -> Result<(), Fault>
+    requires sound { is_sound by.types.table.now ≡ true }
+    ensures { (numbers : Vec ℤ Global) (extensible : Bool) → OnOk result (Makes (DenotesSimple
+        (labels_at by.entry.types.names.now (Some at)) (kinds.Enumerated numbers extensible)
+        (value_view value.now)) made.old made.new) }
+{
+    match value {
+        Value::String(name) => read_name(by, of, at, name, made, trail),
+        Value::Number(text) => match integer_content(by.alloc, text)? {
+            Some(content) => put(by, of, Item::Enumerated(&content), made, trail),
+            None => Err(trail.refused(of, Reason::Listed)),
+        },
+        _ => Err(trail.refused(of, Reason::Listed)),
+    }
+}
+
+/// A bit string.
+fn read_bits(
+    by: By<'_, '_>,
+    of: usize,
+    value: &Value<'_>,
+    made: &mut OwnedTape,
+    trail: &mut Trail,
+) -> Result<(), Fault>
+    requires sound { is_sound by.types.table.now ≡ true }
+    ensures { (named : Bool) → OnOk result (Makes (DenotesSimple [] (kinds.Bits named)
+        (value_view value.now)) made.old made.new) }
+{
+    let Value::Object(members) = value else {
+        return Err(trail.refused(of, Reason::Bits));
+    };
+    match bits_of(by.alloc, members)? {
+        Some((unused, octets)) => put(by, of, Item::Bits(unused, &octets), made, trail),
+        None => Err(trail.refused(of, Reason::Bits)),
+    }
+}
+
+/// An octet string.
+fn read_octets(
+    by: By<'_, '_>,
+    of: usize,
+    text: &str,
+    made: &mut OwnedTape,
+    trail: &mut Trail,
+) -> Result<(), Fault>
+    requires sound { is_sound by.types.table.now ≡ true }
+    ensures { OnOk result (Makes (DenotesSimple [] kinds.Octets
+        (string text.now)) made.old made.new) }
+{
+    match hexadecimal(by.alloc, text)? {
+        Some(octets) => put(by, of, Item::Octets(&octets), made, trail),
+        None => Err(trail.refused(of, Reason::Octets)),
+    }
+}
+
+/// The contents octets of an identifier: by its arcs, or in hexadecimal where these are too large to be shown.
+fn content_of(alloc: Global, relative: bool, text: &str) -> Result<Option<Vec<u8>>, AllocError>
+    ensures { IfOk result (λ found. MatchOption found (Unit {0})
+        (λ content. DenotesIdentifier relative text.now content.items)) }
+{
+    if has_arcs(relative, text) {
+        return identifier_content(alloc, relative, text);
+    }
+    hexadecimal(alloc, text)
+}
+
+/// An identifier.
+fn read_identifier(
+    by: By<'_, '_>,
+    of: usize,
+    relative: bool,
+    text: &str,
+    made: &mut OwnedTape,
+    trail: &mut Trail,
+) -> Result<(), Fault>
+    requires sound { is_sound by.types.table.now ≡ true }
+    ensures { OnOk result (Makes (DenotesSimple [] (kinds.Identifier relative)
+        (string text.now)) made.old made.new) }
+{
+    match content_of(by.alloc, relative, text)? {
+        Some(content) => put(by, of, Item::Identifier(relative, &content), made, trail),
+        None => Err(trail.refused(of, Reason::Identifier)),
+    }
+}
+
+/// A character string.
+fn read_text(
+    by: By<'_, '_>,
+    of: usize,
+    kind: TextKind,
+    text: &str,
+    made: &mut OwnedTape,
+    trail: &mut Trail,
+) -> Result<(), Fault>
+    requires sound { is_sound by.types.table.now ≡ true }
+    ensures { OnOk result (Makes (DenotesSimple [] (kinds.Text kind)
+        (string text.now)) made.old made.new) }
+{
+    match text_octets(by.alloc, kind, text)? {
+        Some(octets) => put(by, of, Item::Text(kind, &octets), made, trail),
+        None => Err(trail.refused(of, Reason::Text)),
+    }
+}
+
+/// A time.
+fn read_time(
+    by: By<'_, '_>,
+    of: usize,
+    kind: TimeKind,
+    text: &str,
+    made: &mut OwnedTape,
+    trail: &mut Trail,
+) -> Result<(), Fault>
+    requires sound { is_sound by.types.table.now ≡ true }
+    ensures { OnOk result (Makes (DenotesSimple [] (kinds.Time kind)
+        (string text.now)) made.old made.new) }
+{
+    match character_octets(by.alloc, text)? {
+        Some(octets) => put(by, of, Item::Time(kind, &octets), made, trail),
+        None => Err(trail.refused(of, Reason::Value)),
+    }
+}
+
+/// Whether octets are the element with these parts and a strict header.
+fn is_element(
+    alloc: Global,
+    octets: &[u8],
+    class: u8,
+    constructed: bool,
+    number: u32,
+    content: &[u8],
+) -> Result<bool, AllocError>
+    ensures class { IfOk result (λ is. is ≡ true → class < 4) }
+    ensures octets { IfOk result (λ is. is ≡ true → octets.now ≡
+        header_octets class constructed number (length content.now) ++ content.now) }
+{
+    if class >= 4 {
+        return Ok(false);
+    }
+    let own = element(alloc, class, constructed, number, content)?;
+    Ok(own.as_bytes() == octets)
+}
+
+/// The one element that octets are, as an item.
+///
+/// That they are is seen from its strict encoding.
+fn element_of(alloc: Global, octets: &[u8]) -> Result<Option<Item<'_>>, AllocError>
+    ensures { IfOk result (λ found. IfSome found (IsElementItem octets.now)) }
+{
+    let Ok((_, (header, content))) = element_by_der(octets) else {
+        return Ok(None);
+    };
+    let class = header.class().number();
+    let constructed = header.constructed();
+    let number = header.tag().0;
+    if is_element(alloc, octets, class, constructed, number, content)? {
+        Ok(Some(Item::Any(class, constructed, number, content)))
+    } else {
+        Ok(None)
+    }
+}
+
+/// An element of any type.
+fn read_element(
+    by: By<'_, '_>,
+    of: usize,
+    text: &str,
+    made: &mut OwnedTape,
+    trail: &mut Trail,
+) -> Result<(), Fault>
+    requires sound { is_sound by.types.table.now ≡ true }
+    ensures { OnOk result (Makes (DenotesSimple [] kinds.Any (string text.now))
+        made.old made.new) }
+{
+    let Some(octets) = hexadecimal(by.alloc, text)? else {
+        return Err(trail.refused(of, Reason::Element));
+    };
+    match element_of(by.alloc, &octets)? {
+        Some(item) => put(by, of, item, made, trail),
+        None => Err(trail.refused(of, Reason::Element)),
+    }
+}
+
+/// Why JSON is refused that is no string.
+fn no_string(kind: &Kind) -> Reason {
+    match kind {
+        Kind::Octets => Reason::Octets,
+        Kind::Identifier(_) => Reason::Identifier,
+        Kind::Text(_) => Reason::Text,
+        Kind::Time(_) => Reason::Time,
+        Kind::Any => Reason::Element,
+        _ => Reason::MissingType,
+    }
+}
+
+/// A value that is shown as a string.
+fn read_string(
+    by: By<'_, '_>,
+    of: usize,
+    kind: &Kind,
+    value: &Value<'_>,
+    made: &mut OwnedTape,
+    trail: &mut Trail,
+) -> Result<(), Fault>
+    requires sound { is_sound by.types.table.now ≡ true }
+    ensures { OnOk result (Makes (DenotesSimple [] kind.now (value_view value.now))
+        made.old made.new) }
+{
+    let Value::String(text) = value else {
+        return Err(trail.refused(of, no_string(kind)));
+    };
+    match kind {
+        Kind::Octets => read_octets(by, of, text, made, trail),
+        Kind::Identifier(relative) => read_identifier(by, of, *relative, text, made, trail),
+        Kind::Text(kind) => read_text(by, of, *kind, text, made, trail),
+        Kind::Time(kind) => read_time(by, of, *kind, text, made, trail),
+        Kind::Any => read_element(by, of, text, made, trail),
+        _ => Err(trail.refused(of, Reason::MissingType)),
+    }
+}
+
+/// Puts the value without parts that JSON denotes on a tape. `of` is the place of its type, and `at` that of the type
+/// that all tags and bounds are on.
+pub(super) fn read_leaf(
+    by: By<'_, '_>,
+    of: usize,
+    at: usize,
+    kind: &Kind,
+    value: &Value<'_>,
+    made: &mut OwnedTape,
+    trail: &mut Trail,
+) -> Result<(), Fault>
+    requires sound { is_sound by.types.table.now ≡ true }
+    ensures { OnOk result (Makes (DenotesSimple (labels_at by.entry.types.names.now (Some at))
+        kind.now (value_view value.now)) made.old made.new) }
+{
+    match kind {
+        Kind::Boolean => read_boolean(by, of, value, made, trail),
+        Kind::Null => read_null(by, of, value, made, trail),
+        Kind::Integer => read_integer(by, of, value, made, trail),
+        Kind::Enumerated(_, _) => read_listed(by, of, at, value, made, trail),
+        Kind::Bits(_) => read_bits(by, of, value, made, trail),
+        _ => read_string(by, of, kind, value, made, trail),
+    }
+}

@@ -1,0 +1,9 @@
+use Rattle.std.proofs.Common.{rules}
+use Rattle.asn1_headers.specs.Answers.{seen}
+use Rattle.asn1_rs.specs.Laws.Structs.AnyTag.{explicit_by_ber}
+use Rattle.asn1_rs.proofs.structs.any_tag.OptionTaggedParserExplicitErrorReadsFieldBerParser.read_field.Goals as goal
+
+pub returns-clause-exact : goal.returns-clause-exact
+returns-clause-exact g c = let laws = g.met.T.LawfulBer c.lifetimes (search rules) in
+    (explicit_by_ber g.T.Grammar.grammar g.met.T.LawfulItem.lawful_item g.T.FromBer.ber_gives laws.ber_exact
+    laws.ber_no_memory).or_none c.args.octets.now (seen c.or_none_by_ber.result) c.or_none_by_ber.ensures

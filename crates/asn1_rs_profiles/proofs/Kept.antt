@@ -1,0 +1,43 @@
+-- A value that was read, and the element at the front, leave the same octets.
+use Rattle.std.proofs.Common.{◌≡◌, ◌∙◌, ap, sym, ℕ, ◌-◌, List, [], ◌++◌, append-nil, arith, length, length-append, take}
+use Rattle.std.specs.Prelude.{Ok, Err}
+use Rattle.std.proofs.lemmas.List.{append_cancel_left}
+use Rattle.std.proofs.Math.Seq.{take-append_seam}
+use Rattle.x690.specs.Elements.{IsDerElement}
+use Rattle.x690.specs.Faults.{DerElementFault}
+use Rattle.x690.specs.Identifiers.{IsTruncatedIdentifier}
+use Rattle.asn1_headers.specs.Answers.{Front}
+use Rattle.asn1_headers.specs.Header.Reading.{der_violation}
+use Rattle.asn1_headers.specs.declared.error.Err.{Err as Refusal}
+use Rattle.asn1_headers.specs.declared.error.Error.{Error}
+use Rattle.asn1_rs.specs.declared.asn1_types.any.Any.{Any}
+use Rattle.asn1_rs.specs.Any.{DerElementGives, parts_of}
+use Rattle.asn1_rs.specs.Grammar.Item.{IsLawfulItem, ItemGrammar}
+use Rattle.asn1_rs.specs.Laws.Any.{refusal_lasts}
+use Rattle.asn1_rs.specs.Laws.Readers.{der_elements, speaks_now}
+
+module _ {T : Type 0} (G : ItemGrammar T) (l : IsLawfulItem G) (input : List ℕ) (v : G.Value) (rest : List ℕ)
+    (f : Front G.Der input v rest) where
+  -- what follows the value follows the element
+  pub same_rest : (other : List ℕ) (any : Any) → DerElementGives input (Ok (other, any)) → rest ≡ other
+  same_rest other any g =
+      let p = l.der_element f.word v f.fits in
+      let e = g.front in
+      let same = (der_elements.one.one f.word e.word rest other p.0 (parts_of any) p.1 e.fits (sym f.is ∙ e.is)).0 in
+      append_cancel_left f.word rest other
+      (sym f.is ∙ e.is ∙ ap (λ (w : List ℕ). w ++ other) (sym same))
+
+  -- an element is there
+  pub no_refusal : (r : Refusal Error) → DerElementGives input (Err r) → ⊥
+  no_refusal r g =
+      let p = l.der_element f.word v f.fits in
+      refusal_lasts IsDerElement DerElementFault IsTruncatedIdentifier der_elements der_violation input r g [] f.word rest
+      p.0 (speaks_now (IsTruncatedIdentifier input) r) p.1 (append-nil input ∙ f.is)
+
+-- The octets before what is left are those in front of it.
+pub front_taken : (octets front rest : List ℕ) (n : ℕ) → octets ≡ front ++ rest → n ≡ length octets - length rest →
+    take n octets ≡ front
+front_taken octets front rest n is e =
+    let l = ap length is in
+    let m : n ≡ length front = omega (arith, e, l, length-append front rest) in
+    rw is (rw m (take-append_seam front rest))

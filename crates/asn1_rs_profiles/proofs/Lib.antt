@@ -1,0 +1,3 @@
+pub mod AboveZero
+pub mod Comparing
+pub mod Kept

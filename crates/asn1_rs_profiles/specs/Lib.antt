@@ -1,0 +1,3 @@
+pub mod Refined
+pub mod Signed
+pub mod Strict

@@ -1,0 +1,31 @@
+//! Profiles of messages: what a protocol asks beside the types of its fields.
+//!
+//! - [`Refined`] is a subtype (X.680 51): the values of a type that have a property, as a range or a size.
+//! - [`Signed`] keeps the octets of an element beside its value, since a signature is of octets.
+//! - [`read_strict`] takes only the one strict encoding of a value, and tells the first octet that differs from it.
+#![tactic(auto)]
+
+mod accuracy;
+mod header_data;
+mod refined;
+mod signed;
+mod strict;
+mod timestamp;
+mod usages;
+
+pub use accuracy::{
+    Accuracy, AccuracyRow, Thousandths, accuracy_vec, read_accuracy, read_accuracy_by_ber,
+};
+pub use header_data::{HeaderData, HeaderDataRow, header_data_vec, read_header_data};
+pub use refined::{
+    AtLeast, Both, Either, LawfulMeasured, LawfulNumber, LawfulProperty, Measured, Number, Octets,
+    Positive, Property, Range, Refined, RefinedKind, RefinedReader, Size,
+};
+pub use signed::laws::kept_octets_are_the_word;
+pub use signed::{Signed, SignedKind};
+pub use strict::{NotStrict, read_as_written, read_strict};
+pub use timestamp::{Microseconds, Timestamp, TimestampRow, read_timestamp, timestamp_vec};
+pub use usages::{
+    Features, KeyPurposes, Serial, features_vec, key_purposes_vec, read_features,
+    read_features_by_ber, read_key_purposes, read_serial, serial_vec,
+};
