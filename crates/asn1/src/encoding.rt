@@ -18,8 +18,8 @@ use std::io::{BufWriter, Write};
 use std::rt::Files;
 use std::{fs, io};
 
-/// The table of the types of modules, and the place of the type. None comes where there is none: why is told on standard
-/// error.
+/// The table of the types of modules, and the place of the type. None comes where there is none: why is told on
+/// standard error.
 fn type_of<'t, R: Eprint + AllocGlobal>(
     rt: &R,
     call: &EncodeCall<'_>,

@@ -56,8 +56,8 @@ fn push_depth(text: &mut Vec<u8>, depth: usize) -> Result<(), AllocError>
     Ok(())
 }
 
-/// Appends the front of a line. It has the offset and the counts of header and contents octets. The depth is told by how
-/// far the tag is set in. The form follows where it is not the one that the type mostly has.
+/// Appends the front of a line. It has the offset and the counts of header and contents octets. The depth is told by
+/// how far the tag is set in. The form follows where it is not the one that the type mostly has.
 pub fn push_head(text: &mut Vec<u8>, line: &Line<'_>) -> Result<(), AllocError>
     ensures { OnOk result (text.new.items ≡ text.old.items ++ head_text line.now) }
 {

@@ -1,4 +1,5 @@
-//! Names of common object identifiers, as the modules of their standards spell them: a table for the arcs below each arc.
+//! Names of common object identifiers, as the modules of their standards spell them: a table for the arcs below each
+//! arc.
 
 /// Attributes of RFC 4519: 0.9.2342.19200300.100.1.
 const PILOT_ATTRIBUTE: [(u8, &str); 3] = [

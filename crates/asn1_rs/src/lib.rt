@@ -15,7 +15,7 @@
 //!
 //! ```rust
 //! pub fn read_numbers(alloc: Global, octets: &[u8]) -> ParseResult<'_, Vec<u32>, Error>
-//!     ensures { Exactly IsCutIdentifier ShortNumbers (λ numbers. map pos numbers.items)
+//!     ensures { Exactly IsTruncatedIdentifier ShortNumbers (λ numbers. map pos numbers.items)
 //!         WantsMemory octets.now (seen result) }
 //! {
 //!     read_der::<Vec<u32>, Error>(alloc, octets)

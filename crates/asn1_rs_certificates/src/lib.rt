@@ -1,6 +1,6 @@
 //! Certificates of X.509 (RFC 5280, 4.1), requests for them (RFC 2986), their status (RFC 6960) and signed content
-//! (RFC 5652), as structs of fields. They are read by DER exactly where their grammar says, and borrowed from the octets.
-//! They are written as their one strict encoding.
+//! (RFC 5652), as structs of fields. They are read by DER exactly where their grammar says, and borrowed from the
+//! octets. They are written as their one strict encoding.
 #![tactic(auto)]
 
 mod added;

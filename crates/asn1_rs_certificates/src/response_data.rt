@@ -1,4 +1,5 @@
-//! What a responder signs: the status of certificates (RFC 6960, 4.2.1). It is read by DER, and borrowed from the octets.
+//! What a responder signs: the status of certificates (RFC 6960, 4.2.1). It is read by DER, and borrowed from the
+//! octets.
 ghost use Rattle.asn1_rs.specs.Prelude.{choice_numbers, choice_of, choice_type, ChoiceReads, is_one_of, its_own_type};
 ghost use Rattle.asn1_rs.specs.Prelude.{MadeOf, numbers_of_choice, refl, struct_of};
 ghost use Rattle.std.specs.Prelude.{◌≡◌};

@@ -144,8 +144,8 @@ pub fn read_signed_data<'a>(
     read_der::<SignedData<'a>, Error>(alloc, octets)
 }
 
-/// The one strict encoding of a signed content in DER form. Where its length fits `usize`, it is refused only when out of
-/// memory.
+/// The one strict encoding of a signed content in DER form. Where its length fits `usize`, it is refused only when out
+/// of memory.
 pub fn signed_data_vec(alloc: Global, signed_data: &SignedData<'_>) -> SerializeResult<Vec<u8>>
     ensures { ⟦<SignedData<'static> as Grammar>⟧.grammar.IsDer
         (⟦<SignedData<'static> as Grammar>⟧.grammar.value signed_data.now) →

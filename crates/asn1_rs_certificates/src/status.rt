@@ -206,8 +206,8 @@ pub fn read_basic_response<'a>(
     read_der::<BasicOcspResponse<'a>, Error>(alloc, octets)
 }
 
-/// The one strict encoding of a signed answer in DER form. Where its length fits `usize`, it is refused only when out of
-/// memory.
+/// The one strict encoding of a signed answer in DER form. Where its length fits `usize`, it is refused only when out
+/// of memory.
 pub fn basic_response_vec(
     alloc: Global,
     basic_response: &BasicOcspResponse<'_>,

@@ -1,5 +1,5 @@
-//! The public key of a certificate and the algorithm that the key is for (RFC 5280, 4.1). Both are read by both rules, and
-//! borrowed from the octets.
+//! The public key of a certificate and the algorithm that the key is for (RFC 5280, 4.1). Both are read by both rules,
+//! and borrowed from the octets.
 ghost use Rattle.asn1_rs.specs.Prelude.{key_of, MadeOf, ReadsByBer, ReadsByDer, refl, seen, struct_members, struct_of};
 ghost use Rattle.asn1_rs.specs.Prelude.{struct_type, WritesStrict};
 

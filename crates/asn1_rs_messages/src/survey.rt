@@ -89,7 +89,8 @@ pub fn read_survey_by_ber<'a>(alloc: Global, octets: &'a [u8]) -> ParseResult<'a
     read_ber::<Survey<'a>, Error>(alloc, octets)
 }
 
-/// The one strict encoding of a survey in DER form. Where its length fits `usize`, it is refused only when out of memory.
+/// The one strict encoding of a survey in DER form. Where its length fits `usize`, it is refused only when out of
+/// memory.
 pub fn survey_vec(alloc: Global, survey: &Survey<'_>) -> SerializeResult<Vec<u8>>
     ensures { ⟦<Survey<'static> as Grammar>⟧.grammar.IsDer
         (⟦<Survey<'static> as Grammar>⟧.grammar.value survey.now) →

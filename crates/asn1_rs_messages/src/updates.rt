@@ -89,7 +89,8 @@ pub fn read_updates_by_ber(alloc: Global, octets: &[u8]) -> ParseResult<'_, Upda
     read_ber::<Updates, Error>(alloc, octets)
 }
 
-/// The one strict encoding of updates in DER form. Where its length fits `usize`, it is refused only when out of memory.
+/// The one strict encoding of updates in DER form. Where its length fits `usize`, it is refused only when out of
+/// memory.
 pub fn updates_vec(alloc: Global, updates: &Updates) -> SerializeResult<Vec<u8>>
     ensures { ⟦<Updates as Grammar>⟧.grammar.IsDer (⟦<Updates as Grammar>⟧.grammar.value updates.now) →
         WritesStrict ⟦<Updates as Grammar>⟧.grammar ⟦<Updates as ToDer>⟧.writing updates.now

@@ -86,8 +86,8 @@ fn compare<T: LawfulWrite>(alloc: Global, value: &T, octets: &[u8]) -> Result<()
 
 /// The value that all of the octets are by DER, where writing it gives these octets again.
 ///
-/// The one strict encoding of a value is always taken. Of a type each of whose values is in DER form nothing else is, as
-/// [`read_strict`] states. A value that is not in DER form, as an [`Oid`](asn1_rs::Oid) with a padded arc, may be
+/// The one strict encoding of a value is always taken. Of a type each of whose values is in DER form nothing else is,
+/// as [`read_strict`] states. A value that is not in DER form, as an [`Oid`](asn1_rs::Oid) with a padded arc, may be
 /// written as it was read, and then it is taken too.
 pub fn read_as_written<'a, T>(alloc: Global, octets: &'a [u8]) -> Result<T, NotStrict>
 where
@@ -109,8 +109,8 @@ where
 
 /// The value whose one strict encoding all of the octets are.
 ///
-/// Refused with `Refused` as [`read_der_whole`] refuses, and when out of memory. Else with `Differs` and the first octet
-/// that differs from the strict encoding of the value that the octets are by DER.
+/// Refused with `Refused` as [`read_der_whole`] refuses, and when out of memory. Else with `Differs` and the first
+/// octet that differs from the strict encoding of the value that the octets are by DER.
 pub fn read_strict<'a, T>(alloc: Global, octets: &'a [u8]) -> Result<T, NotStrict>
 where
     T: LawfulDer<'a, Error> + LawfulWrite + AlwaysDer + Drop,

@@ -25,8 +25,8 @@ pub fn read_serial<'a>(alloc: Global, octets: &'a [u8]) -> ParseResult<'a, Seria
     read_der::<Serial<'a>, Error>(alloc, octets)
 }
 
-/// The one strict encoding of a serial number in DER form. Where its length fits `usize`, it is refused only when out of
-/// memory.
+/// The one strict encoding of a serial number in DER form. Where its length fits `usize`, it is refused only when out
+/// of memory.
 pub fn serial_vec(alloc: Global, serial: &Serial<'_>) -> SerializeResult<Vec<u8>>
     ensures { ⟦<Serial<'static> as Grammar>⟧.grammar.IsDer
         (⟦<Serial<'static> as Grammar>⟧.grammar.value serial.now) →

@@ -79,8 +79,8 @@ pub fn read_bindings_whole<'a>(alloc: Global, octets: &'a [u8]) -> Result<Vec<Va
     read_ber_whole::<Vec<VarBind<'a>>>(alloc, octets)
 }
 
-/// The one strict encoding of a list of bindings in DER form. Where its length fits `usize`, it is refused only when out
-/// of memory.
+/// The one strict encoding of a list of bindings in DER form. Where its length fits `usize`, it is refused only when
+/// out of memory.
 pub fn bindings_vec(alloc: Global, bindings: &Vec<VarBind<'_>>) -> SerializeResult<Vec<u8>>
     ensures { ⟦<Vec<VarBind<'static>> as Grammar>⟧.grammar.IsDer
         (⟦<Vec<VarBind<'static>> as Grammar>⟧.grammar.value bindings.now) →

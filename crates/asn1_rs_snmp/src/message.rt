@@ -67,8 +67,8 @@ pub fn read_message<'a>(alloc: Global, octets: &'a [u8]) -> ParseResult<'a, Mess
     read_ber::<Message<'a>, Error>(alloc, octets)
 }
 
-/// The message that all of the octets are, by BER, as a packet has it. Refused with `TrailingOctets` where octets follow
-/// it.
+/// The message that all of the octets are, by BER, as a packet has it. Refused with `TrailingOctets` where octets
+/// follow it.
 pub fn read_message_whole<'a>(alloc: Global, octets: &'a [u8]) -> Result<Message<'a>, Error>
     ensures exact { IsWhole (ber_words ⟦<Message<'a> as Grammar>⟧.grammar)
         ⟦<Message<'a> as Grammar>⟧.grammar.value

@@ -1,5 +1,5 @@
-//! That the laws of `asn1_rs` can be called: their bounds and what they ask are met at concrete types. The crate is proved,
-//! and has nothing to run.
+//! That the laws of `asn1_rs` can be called: their bounds and what they ask are met at concrete types. The crate is
+//! proved, and has nothing to run.
 #![tactic(auto)]
 
 mod calls;

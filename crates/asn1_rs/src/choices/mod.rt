@@ -11,10 +11,11 @@
 //!     pub type TimeArms = OrUniversal<UtcTime, OrUniversal<GeneralizedTime, Never>>;
 //!
 //! The check of a choice takes longer with each arm, and most with those that have a lifetime. So a choice of many arms
-//! is divided in parts, each an enum that is a choice of a few arms ([`nested`]). [`taken_arm`] has an arm whose type is
-//! too large for those of [`arms`], and [`boxed`] a choice on the heap, which may hold itself.
+//! is divided in parts, each an enum that is a choice of a few arms ([`nested`]). [`taken_arm`] has an arm whose type
+//! is too large for those of [`arms`], and [`boxed`] a choice on the heap, which may hold itself.
 //!
-//! The laws of the arms stand in the choice's own record ([`LawfulChoice`]), and what holds a choice asks nothing of them.
+//! The laws of the arms stand in the choice's own record ([`LawfulChoice`]), and what holds a choice asks nothing of
+//! them.
 
 pub(crate) mod arms;
 pub(crate) mod boxed;

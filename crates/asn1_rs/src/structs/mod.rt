@@ -8,8 +8,8 @@
 //!
 //!     pub type MeasurementRow = (u32, (u64, (Option<u8>, ())));
 //!
-//! The laws of the fields stand in the struct's own record ([`LawfulStruct`]), and no bound names its row. So what holds
-//! a struct, as a list, a tag or another struct, passes nothing of its fields on.
+//! The laws of the fields stand in the struct's own record ([`LawfulStruct`]), and no bound names its row. So what
+//! holds a struct, as a list, a tag or another struct, passes nothing of its fields on.
 
 pub(crate) mod any_tag;
 pub(crate) mod defaulted;

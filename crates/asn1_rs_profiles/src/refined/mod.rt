@@ -44,7 +44,8 @@ pub trait Property<T> {
         ensures { result ≡ keeps value.now };
 }
 
-/// A property that goes by the value that is written. Octets, which say that value alone, then tell whether it is there.
+/// A property that goes by the value that is written. Octets, which say that value alone, then tell whether it is
+/// there.
 ///
 ///     impl LawfulProperty<u8> for Odd {
 ///         ghost by_value = { .. };

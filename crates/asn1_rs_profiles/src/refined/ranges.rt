@@ -18,8 +18,8 @@ pub trait Number {
 }
 
 /// A type of integers whose values are integers.
-// A trait of its own: with `Grammar` above `Number`, the checker says of a field of type `Refined<u8, Range<0, 9>>` that
-// it does not cover a type with a bound that an impl meets which is not the only match.
+// A trait of its own: with `Grammar` above `Number`, the checker says of a field of type `Refined<u8, Range<0, 9>>`
+// that it does not cover a type with a bound that an impl meets which is not the only match.
 pub trait LawfulNumber: Number + Grammar {
     /// Two items of one value are one integer.
     ghost one_number: { (x y : Self) → Self.grammar.value x ≡ Self.grammar.value y →

@@ -16,9 +16,9 @@ use std::borrow::CowSlice;
 
 /// A value beside the octets of its element, as they were read.
 ///
-/// A signature is of octets (X.509 6.1, RFC 5652 5.4). So a certificate is read with a field `Signed<'a, TbsCertificate>`
-/// in the place of `TbsCertificate`. Its signature is verified over [`octets`](Signed::octets), and written again these
-/// octets are as they were, also where the value would be written otherwise.
+/// A signature is of octets (X.509 6.1, RFC 5652 5.4). So a certificate is read with a field `Signed<'a,
+/// TbsCertificate>` in the place of `TbsCertificate`. Its signature is verified over [`octets`](Signed::octets), and
+/// written again these octets are as they were, also where the value would be written otherwise.
 ///
 /// By DER the octets are lent by the input. By BER they are copied, with the shortest length; the contents octets stay.
 ///
