@@ -55,7 +55,8 @@ impl HasReader for ResponseData<'_> {
 }
 
 impl<'a> LawfulStruct for ResponseData<'a> {
-    ghost laws = { struct_of (λ x. (x.version, (x.responder_id, (x.produced_at, (x.responses, (x.response_extensions, tt))))))
+    ghost laws = { struct_of
+        (λ x. (x.version, (x.responder_id, (x.produced_at, (x.responses, (x.response_extensions, tt))))))
         ⟦<ResponseDataRow<'a> as Row>⟧.row_laws refl };
 
     fn put_row(&self, fields: &mut Fields) -> SerializeResult<()> {

@@ -52,7 +52,8 @@ impl HasReader for SignedData<'_> {
 }
 
 impl<'a> LawfulStruct for SignedData<'a> {
-    ghost laws = { struct_of (λ x. (x.version, (x.digest_algorithms, (x.encap_content_info, (x.certificates, (x.crls, (x.signer_infos, tt)))))))
+    ghost laws = { struct_of
+        (λ x. (x.version, (x.digest_algorithms, (x.encap_content_info, (x.certificates, (x.crls, (x.signer_infos, tt)))))))
         ⟦<SignedDataRow<'a> as Row>⟧.row_laws refl };
 
     fn put_row(&self, fields: &mut Fields) -> SerializeResult<()> {

@@ -61,7 +61,8 @@ impl HasReader for SignerInfo<'_> {
 }
 
 impl<'a> LawfulStruct for SignerInfo<'a> {
-    ghost laws = { struct_of (λ x. (x.version, (x.sid, (x.digest_algorithm, (x.signed_attrs, (x.signature_algorithm, (x.signature, (x.unsigned_attrs, tt))))))))
+    ghost laws = { struct_of
+        (λ x. (x.version, (x.sid, (x.digest_algorithm, (x.signed_attrs, (x.signature_algorithm, (x.signature, (x.unsigned_attrs, tt))))))))
         ⟦<SignerInfoRow<'a> as Row>⟧.row_laws refl };
 
     fn put_row(&self, fields: &mut Fields) -> SerializeResult<()> {

@@ -56,7 +56,8 @@ impl HasReader for SingleResponse<'_> {
 }
 
 impl<'a> LawfulStruct for SingleResponse<'a> {
-    ghost laws = { struct_of (λ x. (x.cert_id, (x.cert_status, (x.this_update, (x.next_update, (x.single_extensions, tt))))))
+    ghost laws = { struct_of
+        (λ x. (x.cert_id, (x.cert_status, (x.this_update, (x.next_update, (x.single_extensions, tt))))))
         ⟦<SingleResponseRow<'a> as Row>⟧.row_laws refl };
 
     fn put_row(&self, fields: &mut Fields) -> SerializeResult<()> {
@@ -118,7 +119,8 @@ impl HasReader for CertId<'_> {
 }
 
 impl<'a> LawfulStruct for CertId<'a> {
-    ghost laws = { struct_of (λ x. (x.hash_algorithm, (x.issuer_name_hash, (x.issuer_key_hash, (x.serial_number, tt)))))
+    ghost laws = { struct_of
+        (λ x. (x.hash_algorithm, (x.issuer_name_hash, (x.issuer_key_hash, (x.serial_number, tt)))))
         ⟦<CertIdRow<'a> as Row>⟧.row_laws refl };
 
     fn put_row(&self, fields: &mut Fields) -> SerializeResult<()> {

@@ -147,7 +147,8 @@ impl HasReader for Settings {
 }
 
 impl LawfulStruct for Settings {
-    ghost laws = { struct_of (λ x. (x.version, (x.offset, (x.mode, (x.rooms, (x.limit, tt)))))) ⟦<SettingsRow as Row>⟧.row_laws refl };
+    ghost laws = { struct_of (λ x. (x.version, (x.offset, (x.mode, (x.rooms, (x.limit, tt))))))
+        ⟦<SettingsRow as Row>⟧.row_laws refl };
 
     fn put_row(&self, fields: &mut Fields) -> SerializeResult<()> {
         put_fields!(self, fields => version, offset, mode, rooms, limit)
