@@ -10,6 +10,8 @@ tools/pages.py claims [WORD ..]        the rows of docs/claims.tsv that hold one
                                        clauses of which calls
 tools/pages.py functions [CRATE ..]    each public function outside impls and traits, with the names of its clauses and
                                        its comment
+tools/pages.py lines [CRATE ..]        the lines of definitions, of lemmas in specs/Laws and of proofs of each crate,
+                                       without imports, comments and empty lines
 tools/pages.py words                   the words of each page beside its budget, and its sentences of more than 25
                                        words; status 1 where a page is above its budget, more than one sentence in
                                        twenty is too long, or a page links to a file that is not there
@@ -59,7 +61,7 @@ def spec_files(crate):
     folder = TOP / "crates" / crate / "specs"
     for path in sorted(folder.rglob("*.antt")):
         parts = path.relative_to(folder).with_suffix("").parts
-        if parts[0] not in ("Laws", "Lib"):
+        if "Laws" not in parts and parts[0] != "Lib":
             yield path, ".".join([crate, "specs", *parts])
 
 
@@ -152,6 +154,20 @@ def claims(sought):
             print(f"  {' '.join(filter(None, [named, f'of {calls}' * bool(calls)]))}{':' * bool(name and says)} {says}".rstrip())
 
 
+def counted(paths):
+    """How many lines of files neither import nor comment."""
+    texts = (re.sub(r"^(?:pub )?use .*?(?:\}|$)", "", re.sub(r"\s*--.*", "", read(path)), flags=re.M | re.S) for path in paths)
+    return sum(bool(line.strip()) for text in texts for line in text.splitlines())
+
+
+def lines(names):
+    for crate in (crate for crate in CRATES if not names or crate in names):
+        folder, own = TOP / "crates" / crate, [path for path, _ in spec_files(crate)]
+        laws = [path for path in folder.glob("specs/**/*.antt") if path not in own]
+        print(f"{crate}: {counted(own)} of definitions, {counted(laws)} of lemmas,", end=" ")
+        print(f"{counted(folder.glob('proofs/**/*.antt'))} of proofs")
+
+
 # The most words of each page.
 BUDGETS = {
     "README.md": 1200,
@@ -217,6 +233,6 @@ def words(_):
 
 if __name__ == "__main__":
     signal.signal(signal.SIGPIPE, signal.SIG_DFL)
-    if sys.argv[1:2] not in (["modules"], ["definitions"], ["functions"], ["claims"], ["words"]):
+    if sys.argv[1:2] not in (["modules"], ["definitions"], ["functions"], ["claims"], ["lines"], ["words"]):
         sys.exit(__doc__)
     globals()[sys.argv[1]](sys.argv[2:])
