@@ -9,7 +9,7 @@ ghost use Rattle.asn1_schema.specs.Grammar.{has_tag, is_tag_of};
 ghost use Rattle.asn1_schema.specs.Build.{IsPresence, IsAnyNode, IsBounded, IsChoiceOf, IsUnder, IsDefined};
 ghost use Rattle.asn1_schema.specs.Build.{Puts, PutsOpen, IsOpenChoice, Tells, AreTagsOf, has_tag_at};
 ghost use Rattle.asn1_schema.specs.Build.{last_places, may_be_omitted};
-ghost use Rattle.asn1_schema.specs.BuildNames.{label_of, AreLabels, ArePlaced, HasName, HasNames, AreNamesAt};
+ghost use Rattle.asn1_schema.specs.BuildNames.{ArePlaced, HasName, HasLabels, HasParts, HasArms, AreNamesAt};
 ghost use Rattle.asn1_schema.specs.BuildNames.{PutsNames, PutsOpenNames, AreUnder, AreDefined, IsNamed};
 ghost use Rattle.asn1_schema.specs.declared.schema.TimeKind.TheVariants as times;
 
@@ -227,10 +227,8 @@ impl<'n> Schema<'n> {
         kind: Kind,
         labels: Vec<PartName<'n>>,
     ) -> Result<usize, BuildError>
-        ensures puts { Puts self.old.nodes.items self.new.nodes.items
-            (IsOf tag kind) result }
-        ensures names { PutsNames self.old.names.items self.new.names.items
-            (HasNames name.now (AreLabels (map label_of labels.entry.items))) result }
+        ensures puts { Puts self.old.nodes.items self.new.nodes.items (IsOf tag kind) result }
+        ensures names { PutsNames self.old self.new (HasLabels name.now labels.entry.items) result }
         ensures named { IsNamed self.old → IsNamed self.new }
     {
         let tags = one_tag(self.alloc, tag)?;
@@ -241,8 +239,7 @@ impl<'n> Schema<'n> {
     fn plain(&mut self, name: &'n str, number: u32, kind: Kind) -> Result<usize, BuildError>
         ensures puts { Puts self.old.nodes.items self.new.nodes.items
             (IsOf (universal number) kind) result }
-        ensures names { PutsNames self.old.names.items self.new.names.items
-            (HasName name.now) result }
+        ensures names { PutsNames self.old self.new (HasName name.now) result }
         ensures named { IsNamed self.old → IsNamed self.new }
     {
         let labels = Vec::new(self.alloc);
@@ -253,8 +250,7 @@ impl<'n> Schema<'n> {
     pub fn boolean(&mut self, name: &'n str) -> Result<usize, BuildError>
         ensures puts { Puts self.old.nodes.items self.new.nodes.items
             (IsOf (universal 1) kinds.Boolean) result }
-        ensures names { PutsNames self.old.names.items self.new.names.items
-            (HasName name.now) result }
+        ensures names { PutsNames self.old self.new (HasName name.now) result }
         ensures named { IsNamed self.old → IsNamed self.new }
     {
         self.plain(name, 1, Kind::Boolean)
@@ -264,8 +260,7 @@ impl<'n> Schema<'n> {
     pub fn null(&mut self, name: &'n str) -> Result<usize, BuildError>
         ensures puts { Puts self.old.nodes.items self.new.nodes.items
             (IsOf (universal 5) kinds.Null) result }
-        ensures names { PutsNames self.old.names.items self.new.names.items
-            (HasName name.now) result }
+        ensures names { PutsNames self.old self.new (HasName name.now) result }
         ensures named { IsNamed self.old → IsNamed self.new }
     {
         self.plain(name, 5, Kind::Null)
@@ -275,8 +270,7 @@ impl<'n> Schema<'n> {
     pub fn integer(&mut self, name: &'n str, numbers: &[PartName<'n>]) -> Result<usize, BuildError>
         ensures puts { Puts self.old.nodes.items self.new.nodes.items
             (IsOf (universal 2) kinds.Integer) result }
-        ensures names { PutsNames self.old.names.items self.new.names.items
-            (HasNames name.now (AreLabels (map label_of numbers.now))) result }
+        ensures names { PutsNames self.old self.new (HasLabels name.now numbers.now) result }
         ensures named { IsNamed self.old → IsNamed self.new }
     {
         let labels = Vec::from_slice(self.alloc, numbers)?;
@@ -292,8 +286,7 @@ impl<'n> Schema<'n> {
     ) -> Result<usize, BuildError>
         ensures puts { Puts self.old.nodes.items self.new.nodes.items
             (IsLike (universal 10) (IsListed numbers.now extensible)) result }
-        ensures names { PutsNames self.old.names.items self.new.names.items
-            (HasNames name.now (AreLabels (map label_of numbers.now))) result }
+        ensures names { PutsNames self.old self.new (HasLabels name.now numbers.now) result }
         ensures named { IsNamed self.old → IsNamed self.new }
     {
         let labels = Vec::from_slice(self.alloc, numbers)?;
@@ -310,8 +303,7 @@ impl<'n> Schema<'n> {
     pub fn bits(&mut self, name: &'n str) -> Result<usize, BuildError>
         ensures puts { Puts self.old.nodes.items self.new.nodes.items
             (IsOf (universal 3) (kinds.Bits false)) result }
-        ensures names { PutsNames self.old.names.items self.new.names.items
-            (HasName name.now) result }
+        ensures names { PutsNames self.old self.new (HasName name.now) result }
         ensures named { IsNamed self.old → IsNamed self.new }
     {
         self.plain(name, 3, Kind::Bits(false))
@@ -321,8 +313,7 @@ impl<'n> Schema<'n> {
     pub fn named_bits(&mut self, name: &'n str, bits: &[PartName<'n>]) -> Result<usize, BuildError>
         ensures puts { Puts self.old.nodes.items self.new.nodes.items
             (IsOf (universal 3) (kinds.Bits true)) result }
-        ensures names { PutsNames self.old.names.items self.new.names.items
-            (HasNames name.now (AreLabels (map label_of bits.now))) result }
+        ensures names { PutsNames self.old self.new (HasLabels name.now bits.now) result }
         ensures named { IsNamed self.old → IsNamed self.new }
     {
         let labels = Vec::from_slice(self.alloc, bits)?;
@@ -333,8 +324,7 @@ impl<'n> Schema<'n> {
     pub fn octets(&mut self, name: &'n str) -> Result<usize, BuildError>
         ensures puts { Puts self.old.nodes.items self.new.nodes.items
             (IsOf (universal 4) kinds.Octets) result }
-        ensures names { PutsNames self.old.names.items self.new.names.items
-            (HasName name.now) result }
+        ensures names { PutsNames self.old self.new (HasName name.now) result }
         ensures named { IsNamed self.old → IsNamed self.new }
     {
         self.plain(name, 4, Kind::Octets)
@@ -344,8 +334,7 @@ impl<'n> Schema<'n> {
     pub fn identifier(&mut self, name: &'n str) -> Result<usize, BuildError>
         ensures puts { Puts self.old.nodes.items self.new.nodes.items
             (IsOf (universal 6) (kinds.Identifier false)) result }
-        ensures names { PutsNames self.old.names.items self.new.names.items
-            (HasName name.now) result }
+        ensures names { PutsNames self.old self.new (HasName name.now) result }
         ensures named { IsNamed self.old → IsNamed self.new }
     {
         self.plain(name, 6, Kind::Identifier(false))
@@ -355,8 +344,7 @@ impl<'n> Schema<'n> {
     pub fn relative_identifier(&mut self, name: &'n str) -> Result<usize, BuildError>
         ensures puts { Puts self.old.nodes.items self.new.nodes.items
             (IsOf (universal 13) (kinds.Identifier true)) result }
-        ensures names { PutsNames self.old.names.items self.new.names.items
-            (HasName name.now) result }
+        ensures names { PutsNames self.old self.new (HasName name.now) result }
         ensures named { IsNamed self.old → IsNamed self.new }
     {
         self.plain(name, 13, Kind::Identifier(true))
@@ -366,8 +354,7 @@ impl<'n> Schema<'n> {
     pub fn text(&mut self, name: &'n str, kind: TextKind) -> Result<usize, BuildError>
         ensures puts { Puts self.old.nodes.items self.new.nodes.items
             (IsOf (universal (text_number kind)) (kinds.Text kind)) result }
-        ensures names { PutsNames self.old.names.items self.new.names.items
-            (HasName name.now) result }
+        ensures names { PutsNames self.old self.new (HasName name.now) result }
         ensures named { IsNamed self.old → IsNamed self.new }
     {
         self.plain(name, text_number(kind), Kind::Text(kind))
@@ -377,8 +364,7 @@ impl<'n> Schema<'n> {
     pub fn utc_time(&mut self, name: &'n str) -> Result<usize, BuildError>
         ensures puts { Puts self.old.nodes.items self.new.nodes.items
             (IsOf (universal 23) (kinds.Time times.Utc)) result }
-        ensures names { PutsNames self.old.names.items self.new.names.items
-            (HasName name.now) result }
+        ensures names { PutsNames self.old self.new (HasName name.now) result }
         ensures named { IsNamed self.old → IsNamed self.new }
     {
         self.plain(name, 23, Kind::Time(TimeKind::Utc))
@@ -388,8 +374,7 @@ impl<'n> Schema<'n> {
     pub fn generalized_time(&mut self, name: &'n str) -> Result<usize, BuildError>
         ensures puts { Puts self.old.nodes.items self.new.nodes.items
             (IsOf (universal 24) (kinds.Time times.Generalized)) result }
-        ensures names { PutsNames self.old.names.items self.new.names.items
-            (HasName name.now) result }
+        ensures names { PutsNames self.old self.new (HasName name.now) result }
         ensures named { IsNamed self.old → IsNamed self.new }
     {
         self.plain(name, 24, Kind::Time(TimeKind::Generalized))
@@ -413,8 +398,7 @@ impl<'n> Schema<'n> {
         ensures leads { IfOk result (λ _. of < length self.old.nodes.items) }
         ensures puts { Puts self.old.nodes.items self.new.nodes.items
             (IsOf (universal 16) (kinds.SequenceOf of)) result }
-        ensures names { PutsNames self.old.names.items self.new.names.items
-            (HasName name.now) result }
+        ensures names { PutsNames self.old self.new (HasName name.now) result }
         ensures named { IsNamed self.old → IsNamed self.new }
     {
         self.check_place(of)?;
@@ -426,8 +410,7 @@ impl<'n> Schema<'n> {
         ensures leads { IfOk result (λ _. of < length self.old.nodes.items) }
         ensures puts { Puts self.old.nodes.items self.new.nodes.items
             (IsOf (universal 17) (kinds.SetOf of)) result }
-        ensures names { PutsNames self.old.names.items self.new.names.items
-            (HasName name.now) result }
+        ensures names { PutsNames self.old self.new (HasName name.now) result }
         ensures named { IsNamed self.old → IsNamed self.new }
     {
         self.check_place(of)?;
@@ -439,8 +422,7 @@ impl<'n> Schema<'n> {
         ensures leads { IfOk result (λ _. of < length self.old.nodes.items) }
         ensures puts { Puts self.old.nodes.items self.new.nodes.items
             (IsOf tag (kinds.Explicit of)) result }
-        ensures names { PutsNames self.old.names.items self.new.names.items
-            (HasName []) result }
+        ensures names { PutsNames self.old self.new (HasName []) result }
         ensures named { IsNamed self.old → IsNamed self.new }
     {
         self.check_place(of)?;
@@ -466,8 +448,7 @@ impl<'n> Schema<'n> {
     ) -> Result<usize, BuildError>
         ensures puts { Puts self.old.nodes.items self.new.nodes.items
             (IsLike (universal 16) (IsRow parts.now unknown)) result }
-        ensures names { PutsNames self.old.names.items self.new.names.items
-            (HasNames name.now (ArePlaced (map (λ p. p.name.now) parts.now))) result }
+        ensures names { PutsNames self.old self.new (HasParts name.now parts.now) result }
         ensures named { IsNamed self.old → IsNamed self.new }
     {
         self.check_parts(parts)?;
@@ -480,8 +461,7 @@ impl<'n> Schema<'n> {
     pub fn sequence(&mut self, name: &'n str, parts: &[Part<'n>]) -> Result<usize, BuildError>
         ensures puts { Puts self.old.nodes.items self.new.nodes.items
             (IsLike (universal 16) (IsRow parts.now None)) result }
-        ensures names { PutsNames self.old.names.items self.new.names.items
-            (HasNames name.now (ArePlaced (map (λ p. p.name.now) parts.now))) result }
+        ensures names { PutsNames self.old self.new (HasParts name.now parts.now) result }
         ensures named { IsNamed self.old → IsNamed self.new }
     {
         self.row(name, parts, None)
@@ -527,8 +507,7 @@ impl<'n> Schema<'n> {
             (λ node. (node.kind ≡ kinds.Any) ×
             Tells (λ id. not (has_tag tags id || is_tag_of id (universal 0))) node.tags)
             result }
-        ensures names { PutsNames self.old.names.items self.new.names.items
-            (HasName []) result }
+        ensures names { PutsNames self.old self.new (HasName []) result }
         ensures named { IsNamed self.old → IsNamed self.new }
     {
         let end = one_tag(self.alloc, universal(0))?;
@@ -545,8 +524,7 @@ impl<'n> Schema<'n> {
     pub fn open_sequence(&mut self, name: &'n str, parts: &[Part<'n>]) -> Result<usize, BuildError>
         ensures puts { PutsOpen self.old.nodes.items self.new.nodes.items (last_places parts.now)
             (λ unknown. IsLike (universal 16) (IsRow parts.now (Some unknown))) result }
-        ensures names { PutsOpenNames self.old.names.items self.new.names.items
-            (HasNames name.now (ArePlaced (map (λ p. p.name.now) parts.now))) result }
+        ensures names { PutsOpenNames self.old self.new (HasParts name.now parts.now) result }
         ensures named { IsNamed self.old → IsNamed self.new }
     {
         let tags = self.last_tags(parts)?;
@@ -563,8 +541,7 @@ impl<'n> Schema<'n> {
     ) -> Result<usize, BuildError>
         ensures puts { Puts self.old.nodes.items self.new.nodes.items
             (IsLike (universal 17) (IsSetRow parts.now unknown)) result }
-        ensures names { PutsNames self.old.names.items self.new.names.items
-            (HasNames name.now (ArePlaced (map (λ p. p.name.now) parts.now))) result }
+        ensures names { PutsNames self.old self.new (HasParts name.now parts.now) result }
         ensures named { IsNamed self.old → IsNamed self.new }
     {
         self.check_parts(parts)?;
@@ -577,8 +554,7 @@ impl<'n> Schema<'n> {
     pub fn set(&mut self, name: &'n str, parts: &[Part<'n>]) -> Result<usize, BuildError>
         ensures puts { Puts self.old.nodes.items self.new.nodes.items
             (IsLike (universal 17) (IsSetRow parts.now None)) result }
-        ensures names { PutsNames self.old.names.items self.new.names.items
-            (HasNames name.now (ArePlaced (map (λ p. p.name.now) parts.now))) result }
+        ensures names { PutsNames self.old self.new (HasParts name.now parts.now) result }
         ensures named { IsNamed self.old → IsNamed self.new }
     {
         self.set_row(name, parts, None)
@@ -600,8 +576,7 @@ impl<'n> Schema<'n> {
     pub fn open_set(&mut self, name: &'n str, parts: &[Part<'n>]) -> Result<usize, BuildError>
         ensures puts { PutsOpen self.old.nodes.items self.new.nodes.items (map (λ p. p.of) parts.now)
             (λ unknown. IsLike (universal 17) (IsSetRow parts.now (Some unknown))) result }
-        ensures names { PutsOpenNames self.old.names.items self.new.names.items
-            (HasNames name.now (ArePlaced (map (λ p. p.name.now) parts.now))) result }
+        ensures names { PutsOpenNames self.old self.new (HasParts name.now parts.now) result }
         ensures named { IsNamed self.old → IsNamed self.new }
     {
         let tags = self.all_tags(parts)?;
@@ -611,10 +586,8 @@ impl<'n> Schema<'n> {
 
     /// Any one element but the end of contents octets.
     pub fn any(&mut self, name: &'n str) -> Result<usize, BuildError>
-        ensures puts { Puts self.old.nodes.items self.new.nodes.items
-            IsAnyNode result }
-        ensures names { PutsNames self.old.names.items self.new.names.items
-            (HasName name.now) result }
+        ensures puts { Puts self.old.nodes.items self.new.nodes.items IsAnyNode result }
+        ensures names { PutsNames self.old self.new (HasName name.now) result }
         ensures named { IsNamed self.old → IsNamed self.new }
     {
         let ends = Vec::from_array(self.alloc, [universal(0)])?;
@@ -636,8 +609,7 @@ impl<'n> Schema<'n> {
     ) -> Result<usize, BuildError>
         ensures puts { Puts self.old.nodes.items self.new.nodes.items
             (IsBounded self.old.nodes.items of lower upper) result }
-        ensures names { PutsNames self.old.names.items self.new.names.items
-            (HasName name.now) result }
+        ensures names { PutsNames self.old self.new (HasName name.now) result }
         ensures named { IsNamed self.old → IsNamed self.new }
     {
         let Some(node) = node_at(&self.nodes, of) else {
@@ -666,8 +638,7 @@ impl<'n> Schema<'n> {
         ensures puts { Puts self.old.nodes.items self.new.nodes.items
             (λ node. IsChoiceOf (map (λ a. a.of) arms.now) node.kind ×
             AreTagsOf self.old.nodes.items (map (λ a. a.of) arms.now) node.tags) result }
-        ensures names { PutsNames self.old.names.items self.new.names.items
-            (HasNames name.now (ArePlaced (map (λ a. a.name.now) arms.now))) result }
+        ensures names { PutsNames self.old self.new (HasArms name.now arms.now) result }
         ensures named { IsNamed self.old → IsNamed self.new }
     {
         let tags = self.arm_tags(arms)?;
@@ -684,8 +655,7 @@ impl<'n> Schema<'n> {
     ) -> Result<usize, BuildError>
         ensures puts { PutsOpen self.old.nodes.items self.new.nodes.items
             (map (λ a. a.of) arms.now) (IsOpenChoice (map (λ a. a.of) arms.now)) result }
-        ensures names { PutsOpenNames self.old.names.items self.new.names.items
-            (HasNames name.now (ArePlaced (map (λ a. a.name.now) arms.now))) result }
+        ensures names { PutsOpenNames self.old self.new (HasArms name.now arms.now) result }
         ensures named { IsNamed self.old → IsNamed self.new }
     {
         let tags = self.arm_tags(arms)?;
@@ -708,8 +678,7 @@ impl<'n> Schema<'n> {
     pub fn declare(&mut self, name: &'n str, tag: TypeTag) -> Result<usize, BuildError>
         ensures puts { Puts self.old.nodes.items self.new.nodes.items
             (IsOf tag (kinds.Within (length self.old.nodes.items) None None)) result }
-        ensures names { PutsNames self.old.names.items self.new.names.items
-            (HasName name.now) result }
+        ensures names { PutsNames self.old self.new (HasName name.now) result }
         ensures named { IsNamed self.old → IsNamed self.new }
     {
         let own = self.nodes.len();

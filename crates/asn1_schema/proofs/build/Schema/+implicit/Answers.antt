@@ -28,12 +28,12 @@ returns-in_ok-place-in-Some-bounded-clause-ok t c =
 
 pub returns-in_ok-name-in-None-clause-names : goal.returns-in_ok-name-in-None-clause-names
 returns-in_ok-name-in-None-clause-names t c =
-    are_under c.tagged.result c.args.self.now.names.items c.args.self.now.names.items c.tagged.new.self.names.items c.args.of
+    are_under c.tagged.result c.args.self.now.names.items c.args.self.now c.tagged.new.self c.args.of
     c.in_ok-name-in-None.field-0 c.in_ok-name-in-None.ensures c.tagged.ensures.names
 
 pub returns-in_ok-place-in-Some-bounded-clause-names : goal.returns-in_ok-place-in-Some-bounded-clause-names
 returns-in_ok-place-in-Some-bounded-clause-names t c =
-    are_under c.tagged-in-Some-bounded.result c.args.self.now.names.items c.implicit.new.self.names.items
-    c.tagged-in-Some-bounded.new.self.names.items c.args.of c.in_ok-name-in-Some-bounded.field-0
+    are_under c.tagged-in-Some-bounded.result c.args.self.now.names.items c.implicit.new.self
+    c.tagged-in-Some-bounded.new.self c.args.of c.in_ok-name-in-Some-bounded.field-0
     c.in_ok-name-in-Some-bounded.ensures
     c.tagged-in-Some-bounded.ensures.names

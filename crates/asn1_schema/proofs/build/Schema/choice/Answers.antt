@@ -2,7 +2,7 @@ use Rattle.std.proofs.Common.{map, refl}
 use Rattle.asn1_schema.specs.declared.schema.Node.{Node}
 use Rattle.asn1_schema.specs.Build.{IsChoiceOf, AreTagsOf}
 use Rattle.asn1_schema.proofs.Builds.{put_added}
-use Rattle.asn1_schema.specs.BuildNames.{ArePlaced, HasNames}
+use Rattle.asn1_schema.specs.BuildNames.{HasArms}
 use Rattle.asn1_schema.proofs.BuiltNames.{put_names}
 use Rattle.asn1_schema.proofs.build.Schema.choice.Goals as goal
 
@@ -15,6 +15,6 @@ returns-clause-puts c =
 
 pub returns-clause-names : goal.returns-clause-names
 returns-clause-names c =
-    put_names c.put.result c.args.self.now.names.items c.put.new.self.names.items _
-    (HasNames c.args.name.now (ArePlaced (map (λ a. a.name.now) c.args.arms.now))) c.put.ensures.names c.put.ensures.names_err
+    put_names c.put.result c.args.self.now c.put.new.self _
+    (HasArms c.args.name.now c.args.arms.now) c.put.ensures.names c.put.ensures.names_err
     (refl, c.in_ok-labels.ensures)

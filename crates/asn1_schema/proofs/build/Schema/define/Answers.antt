@@ -15,4 +15,5 @@ returns-clause-names c = are_defined c.args.self.now.names.items c.set_labels.ne
     c.args.place c.args.of c.in_ok-labels.field-0 (c.if-not-is_declared.ensures.names refl) c.in_ok-labels.ensures
     (λ own hole. subst (λ (names : List TypeNames). c.set_labels.new.self.names.items ≡
     slice_set names c.args.place (record own { labels = c.in_ok-labels.field-0.labels })) c.set_kind.ensures.names
-    (c.set_labels.ensures.names own (ap (λ (names : List TypeNames). slice_get names c.args.place) c.set_kind.ensures.names ∙ hole)))
+    (c.set_labels.ensures.names own
+    (ap (λ (names : List TypeNames). slice_get names c.args.place) c.set_kind.ensures.names ∙ hole)))

@@ -5,6 +5,6 @@ use Rattle.asn1_schema.proofs.build.Schema.named_bits.Goals as goal
 
 pub returns-clause-names : goal.returns-clause-names
 returns-clause-names c =
-    put_labels c.tagged.result c.args.self.now.names.items c.tagged.new.self.names.items c.args.name.now
+    put_labels c.tagged.result c.args.self.now c.tagged.new.self c.args.name.now
     c.in_ok-labels.labels.items (map label_of c.args.bits.now) (ap (map label_of) c.in_ok-labels.ensures.items)
     c.tagged.ensures.names

@@ -1,7 +1,7 @@
 use Rattle.std.proofs.Common.{◌≡◌, ◌++◌, ◌∷◌, [], map, refl}
 use Rattle.asn1_schema.specs.Build.{IsOpenChoice, universal}
 use Rattle.asn1_schema.proofs.Builds.{put_added, put_open}
-use Rattle.asn1_schema.specs.BuildNames.{ArePlaced, HasNames}
+use Rattle.asn1_schema.specs.BuildNames.{HasArms}
 use Rattle.asn1_schema.proofs.BuiltNames.{put_names, put_open_names}
 use Rattle.asn1_schema.proofs.build.Schema.open_choice.Goals as goal
 
@@ -19,9 +19,9 @@ returns-clause-puts c =
 
 pub returns-clause-names : goal.returns-clause-names
 returns-clause-names c =
-    let mid = c.unknown.new.self.names.items in
-    let named = HasNames c.args.name.now (ArePlaced (map (λ a. a.name.now) c.args.arms.now)) in
-    put_open_names c.put.result c.args.self.now.names.items mid c.put.new.self.names.items named
+    let mid = c.unknown.new.self in
+    let named = HasArms c.args.name.now c.args.arms.now in
+    put_open_names c.put.result c.args.self.now mid c.put.new.self named
     c.in_ok-unknown.ensures.names
-    (put_names c.put.result mid c.put.new.self.names.items _ named c.put.ensures.names c.put.ensures.names_err
+    (put_names c.put.result mid c.put.new.self _ named c.put.ensures.names c.put.ensures.names_err
     (refl, c.in_ok-labels.ensures))

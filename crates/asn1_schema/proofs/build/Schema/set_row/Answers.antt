@@ -12,6 +12,6 @@ returns-clause-puts c =
 
 pub returns-clause-names : goal.returns-clause-names
 returns-clause-names c =
-    put_labels c.tagged.result c.args.self.now.names.items c.tagged.new.self.names.items c.args.name.now
-    c.in_ok-labels.labels.items (placed_from 0 (map (λ p. p.name.now) c.args.parts.now)) (c.in_ok-labels.ensures)
+    put_labels c.tagged.result c.args.self.now c.tagged.new.self c.args.name.now
+    c.in_ok-labels.labels.items (placed_from 0 (map (λ p. p.name.now) c.args.parts.now)) c.in_ok-labels.ensures
     c.tagged.ensures.names

@@ -1,7 +1,7 @@
-use Rattle.std.proofs.Common.{refl, map}
+use Rattle.std.proofs.Common.{refl}
 use Rattle.asn1_schema.specs.Build.{IsOf}
 use Rattle.asn1_schema.proofs.Builds.{put_added}
-use Rattle.asn1_schema.specs.BuildNames.{label_of, AreLabels, HasNames}
+use Rattle.asn1_schema.specs.BuildNames.{HasLabels}
 use Rattle.asn1_schema.proofs.BuiltNames.{put_names}
 use Rattle.asn1_schema.proofs.build.Schema.tagged.Goals as goal
 
@@ -12,6 +12,6 @@ returns-clause-puts c =
 
 pub returns-clause-names : goal.returns-clause-names
 returns-clause-names c =
-    put_names c.put.result c.args.self.now.names.items c.put.new.self.names.items _
-    (HasNames c.args.name.now (AreLabels (map label_of c.args.labels.items))) c.put.ensures.names c.put.ensures.names_err
+    put_names c.put.result c.args.self.now c.put.new.self _
+    (HasLabels c.args.name.now c.args.labels.items) c.put.ensures.names c.put.ensures.names_err
     (refl, refl)

@@ -14,6 +14,6 @@ returns-clause-puts c =
 
 pub returns-clause-names : goal.returns-clause-names
 returns-clause-names c =
-    put_names c.put.result c.args.self.now.names.items c.put.new.self.names.items _
+    put_names c.put.result c.args.self.now c.put.new.self _
     (HasName c.args.name.now) c.put.ensures.names c.put.ensures.names_err
     (refl, ap (map label_of) c.new-labels.ensures.items)
