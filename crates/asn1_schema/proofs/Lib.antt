@@ -33,6 +33,7 @@ pub mod NamedBits
 pub mod Cursors
 pub mod Builds
 pub mod BuiltTags
+pub mod BuiltNames
 pub mod NamedParts
 pub mod ZerosTaken
 pub mod TextFronts

@@ -1,5 +1,6 @@
 pub mod Bits
 pub mod Build
+pub mod BuildNames
 pub mod Counting
 pub mod Cursor
 pub mod Decoding
