@@ -21,3 +21,4 @@ pub mod Owned
 pub mod Writing
 pub mod Encoding
 pub mod Differing
+pub mod Refusals

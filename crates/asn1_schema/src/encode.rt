@@ -144,13 +144,15 @@ pub fn encode_der_to<W: DerWrite>(
 ) -> Result<usize, WriteError>
     requires { is_sound table.now ≡ true }
     ensures ok { (n : ℕ) → result ≡ Ok n →
-        EncodesTo (Word strict table.now depth of) tape.now (W.state w.old) (W.state w.new) (Ok n) }
+        EncodesTo (Word strict table.now depth of) tape.now (W.state w.old) (W.state w.new)
+        (Ok n) }
     ensures failed { (e : SerializeError) → result ≡ Err (write_errors.Writer e) →
-        EncodesTo (Word strict table.now depth of) tape.now (W.state w.old) (W.state w.new) (Err e) }
+        EncodesTo (Word strict table.now depth of) tape.now (W.state w.old) (W.state w.new)
+        (Err e) }
     ensures refused { IsErrOf result write_errors.Refused →
         IsOfNoWord (Word strict table.now depth of) tape.now }
-    ensures unchanged { (IsErrOf result write_errors.Refused) ⊎ (IsErrOf result write_errors.OutOfMemory) →
-        w.new ≡ w.old }
+    ensures unchanged { (IsErrOf result write_errors.Refused) ⊎
+        (IsErrOf result write_errors.OutOfMemory) → w.new ≡ w.old }
 {
     let mut buf = DerBuffer::new(alloc);
     match encode_der(table, of, depth, tape, &mut buf) {

@@ -6,9 +6,12 @@ use Rattle.asn1_schema.proofs.cursor.is_in_pieces.Goals as goal
 
 pub returns-in-Some-clause-yes : goal.returns-in-Some-clause-yes
 returns-in-Some-clause-yes c = λ t.
-    let p = c.begins_pieces.ensures.yes t in
-    (p.0, marks c.in-Some._others.now, ap (λ (z : List Item). marks z) c.in-Some.ensures.cases.0
-    ∙ ap (λ (m : Mark). m ∷ marks c.in-Some._others.now) p.1)
+    let p = c.begins_pieces.ensures.yes t in (
+      p.0,
+      marks c.in-Some._others.now,
+      ap (λ (z : List Item). marks z) c.in-Some.ensures.cases.0
+          ∙ ap (λ (m : Mark). m ∷ marks c.in-Some._others.now) p.1,
+    )
 
 pub returns-in-Some-clause-no : goal.returns-in-Some-clause-no
 returns-in-Some-clause-no c = λ n others e.
