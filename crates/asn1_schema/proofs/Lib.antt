@@ -60,3 +60,4 @@ pub mod WrittenTapes
 pub mod MembersCounted
 pub mod StrictWords
 pub mod Appended
+pub mod JoinedBits

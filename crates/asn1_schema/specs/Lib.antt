@@ -22,3 +22,4 @@ pub mod Owned
 pub mod Writing
 pub mod Encoding
 pub mod Differing
+pub mod Refusals

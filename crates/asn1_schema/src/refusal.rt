@@ -1,5 +1,5 @@
 //! Where and why octets are refused. It stands beside the result of a call, so that results stay small.
-ghost use Rattle.std.specs.Prelude.{◌<◌, ◌≤◌, ◌≡◌, ◌⊎◌};
+ghost use Rattle.std.specs.Prelude.{◌<◌, ◌≤◌, ◌+◌, ◌-◌, ◌^◌, ◌≡◌, ◌⊎◌};
 ghost use Rattle.asn1_schema.specs.declared.fault.Fault.TheVariants as faults;
 ghost use Rattle.asn1_schema.specs.declared.refusal.Reason.TheVariants as reasons;
 
@@ -155,6 +155,8 @@ impl Refusal {
 }
 
 /// The place behind so many of some octets of which others are left.
-pub(crate) fn further(at: usize, all: usize, left: usize) -> usize {
+pub(crate) fn further(at: usize, all: usize, left: usize) -> usize
+    ensures { left ≤ all → at + all < 2 ^ 64 → result ≡ at + (all - left) }
+{
     at.saturating_add(all.saturating_sub(left))
 }
