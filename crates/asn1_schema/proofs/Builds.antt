@@ -26,8 +26,8 @@ put_like (Ok place) old new tag other kind P same is a = record {
 }
 put_like (Err e) old new tag other kind P same is a = a
 
--- what is in the table has a type
-at_place : (xs : List Node) (n : ℕ) → n < length xs → (x : Node) × (slice_get xs n ≡ Some x)
+-- there is something at each place within
+pub at_place : {X : Type 0} (xs : List X) (n : ℕ) → n < length xs → (x : X) × (slice_get xs n ≡ Some x)
 at_place [] n h = absurd (omega arith)
 at_place (x ∷ xs) zero h = (x, refl)
 at_place (x ∷ xs) (suc n) h = at_place xs n (omega arith)

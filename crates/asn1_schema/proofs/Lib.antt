@@ -33,6 +33,7 @@ pub mod NamedBits
 pub mod Cursors
 pub mod Builds
 pub mod BuiltTags
+pub mod BuiltNames
 pub mod NamedParts
 pub mod ZerosTaken
 pub mod TextFronts
@@ -59,3 +60,5 @@ pub mod WrittenTapes
 pub mod MembersCounted
 pub mod StrictWords
 pub mod Appended
+pub mod Told
+pub mod JoinedBits

@@ -137,7 +137,7 @@ unused_more tape rest end unused skip zeros used all s e same l =
     }
 
 -- pieces with one row of marks are the same
-same_pieces : (xs ys : List (List Bool)) → map (λ y. leaf_mark (bits y)) xs ≡ map (λ y. leaf_mark (bits y)) ys → xs ≡ ys
+pub same_pieces : (xs ys : List (List Bool)) → map (λ y. leaf_mark (bits y)) xs ≡ map (λ y. leaf_mark (bits y)) ys → xs ≡ ys
 same_pieces [] [] e = refl
 same_pieces [] (y ∷ ys) e = absurd (cc)
 same_pieces (x ∷ xs) [] e = absurd (cc)
@@ -199,7 +199,7 @@ bit_pieces_put tape start end p q old mid new (Ok x) u z j ok err b =
 
 -- Bits as values.
 
-bits_shape : (k : Kept) (bs : List Bool) → value_of k ≡ leaf (bits bs) →
+pub bits_shape : (k : Kept) (bs : List Bool) → value_of k ≡ leaf (bits bs) →
     (k ≡ kept_leaf (bits bs)) ⊎
     ((x : List Bool) × (xs : List (List Bool)) × (k ≡ kept_bits x xs) × (bs ≡ joined (x ∷ xs)))
 bits_shape (kept_leaf l) bs e = inl (cc)

@@ -21,7 +21,7 @@ use Rattle.asn1_schema.proofs.Lawful.{front_der, front_ber}
 use Rattle.asn1_schema.proofs.StrictIsBer.{strict_is_der, der_is_ber}
 
 -- all of a tape stands before its end
-whole : (tape : List Item) → before tape (length tape) ≡ marks tape
+pub whole : (tape : List Item) → before tape (length tape) ≡ marks tape
 whole tape = ap (λ (z : List Item). marks z) (take_all (length tape) tape (omega arith))
 
 module _ (G : List ℕ → Value → Type 0) (tape : List Item) (old new : List ℕ) where

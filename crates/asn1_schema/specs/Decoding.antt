@@ -15,6 +15,7 @@ use Rattle.asn1_schema.specs.declared.refusal.Refusal.{Refusal}
 use Rattle.asn1_schema.specs.declared.schema.Node.{Node}
 use Rattle.asn1_schema.specs.declared.tape.Item.{Item}
 use Rattle.asn1_schema.specs.Values.{Value}
+use Rattle.asn1_schema.specs.Refusals.{IsTold}
 use Rattle.asn1_schema.specs.Tape.{Kept, marks, value_of, tape_of}
 
 -- A word of the grammar begins the octets, and this is the rest. The tape is that of the value of the word.
@@ -58,6 +59,8 @@ pub record Fails {T : Type 0} (table : List Node) (G : ℕ → List ℕ → Valu
   -- the refusal is told of a type of the table, or of one that it does not have
   pub of : IsErrOf result errors.Refused → (refusal.of < length table) ⊎ (refusal.reason ≡ reasons.MissingType)
   pub deep : IsErrOf result errors.TooDeep → refusal.reason ≡ reasons.Depth
+  -- and why is a reason that this type and this field have
+  pub told : IsErrOf result errors.Refused → IsTold table None refusal
 
 -- The octets end within the identifier octets of an element (X.690 8.1.2.4), by BER of one that is nested.
 abbrev pub EndsWithin : Coding → List ℕ → Type 0

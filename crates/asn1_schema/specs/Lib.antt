@@ -1,5 +1,6 @@
 pub mod Bits
 pub mod Build
+pub mod BuildNames
 pub mod Counting
 pub mod Cursor
 pub mod Decoding
@@ -21,3 +22,4 @@ pub mod Owned
 pub mod Writing
 pub mod Encoding
 pub mod Differing
+pub mod Refusals

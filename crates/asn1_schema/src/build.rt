@@ -9,6 +9,8 @@ ghost use Rattle.asn1_schema.specs.Grammar.{has_tag, is_tag_of};
 ghost use Rattle.asn1_schema.specs.Build.{IsPresence, IsAnyNode, IsBounded, IsChoiceOf, IsUnder, IsDefined};
 ghost use Rattle.asn1_schema.specs.Build.{Puts, PutsOpen, IsOpenChoice, Tells, AreTagsOf, has_tag_at};
 ghost use Rattle.asn1_schema.specs.Build.{last_places, may_be_omitted};
+ghost use Rattle.asn1_schema.specs.BuildNames.{ArePlaced, HasName, HasLabels, HasParts, HasArms, AreNamesAt};
+ghost use Rattle.asn1_schema.specs.BuildNames.{PutsNames, PutsOpenNames, AreUnder, AreDefined, IsNamed};
 ghost use Rattle.asn1_schema.specs.declared.schema.TimeKind.TheVariants as times;
 
 use crate::copies::{bounded, copied_tags, retagged};
@@ -155,7 +157,9 @@ fn fields_of(alloc: Global, parts: &[Part<'_>]) -> Result<Vec<Field>, BuildError
 }
 
 /// The names of parts, with their places.
-fn part_names<'n>(alloc: Global, parts: &[Part<'n>]) -> Result<Vec<PartName<'n>>, BuildError> {
+fn part_names<'n>(alloc: Global, parts: &[Part<'n>]) -> Result<Vec<PartName<'n>>, BuildError>
+    ensures { IfOk result (λ labels. ArePlaced (map (λ p. p.name.now) parts.now) labels.items) }
+{
     let mut names = Vec::new(alloc);
     for (place, part) in parts.iter().enumerate() {
         names.push(label(part.name, place as i128))?;
@@ -164,7 +168,9 @@ fn part_names<'n>(alloc: Global, parts: &[Part<'n>]) -> Result<Vec<PartName<'n>>
 }
 
 /// The names of arms, with their places.
-fn arm_names<'n>(alloc: Global, arms: &[ChoiceArm<'n>]) -> Result<Vec<PartName<'n>>, BuildError> {
+fn arm_names<'n>(alloc: Global, arms: &[ChoiceArm<'n>]) -> Result<Vec<PartName<'n>>, BuildError>
+    ensures { IfOk result (λ labels. ArePlaced (map (λ a. a.name.now) arms.now) labels.items) }
+{
     let mut names = Vec::new(alloc);
     for (place, arm) in arms.iter().enumerate() {
         names.push(label(arm.name, place as i128))?;
@@ -199,6 +205,8 @@ impl<'n> Schema<'n> {
         ensures names { OnOk result (self.new.names.items ≡
             self.old.names.items ++ names.entry ∷ []) }
         ensures err { OnErr result (self.new.nodes.items ≡ self.old.nodes.items) }
+        ensures names_err { OnErr result (self.new.names.items ≡ self.old.names.items) }
+        ensures named { IsNamed self.old → IsNamed self.new }
     {
         let place = self.nodes.len();
         self.names.push(names)?;
@@ -219,8 +227,9 @@ impl<'n> Schema<'n> {
         kind: Kind,
         labels: Vec<PartName<'n>>,
     ) -> Result<usize, BuildError>
-        ensures { Puts self.old.nodes.items self.new.nodes.items
-            (IsOf tag kind) result }
+        ensures puts { Puts self.old.nodes.items self.new.nodes.items (IsOf tag kind) result }
+        ensures names { PutsNames self.old self.new (HasLabels name.now labels.entry.items) result }
+        ensures named { IsNamed self.old → IsNamed self.new }
     {
         let tags = one_tag(self.alloc, tag)?;
         self.put(Node { tags, kind }, TypeNames { name, labels })
@@ -228,8 +237,10 @@ impl<'n> Schema<'n> {
 
     /// Puts a type with a universal tag and without names of parts behind the others.
     fn plain(&mut self, name: &'n str, number: u32, kind: Kind) -> Result<usize, BuildError>
-        ensures { Puts self.old.nodes.items self.new.nodes.items
+        ensures puts { Puts self.old.nodes.items self.new.nodes.items
             (IsOf (universal number) kind) result }
+        ensures names { PutsNames self.old self.new (HasName name.now) result }
+        ensures named { IsNamed self.old → IsNamed self.new }
     {
         let labels = Vec::new(self.alloc);
         self.tagged(name, universal(number), kind, labels)
@@ -237,24 +248,30 @@ impl<'n> Schema<'n> {
 
     /// BOOLEAN.
     pub fn boolean(&mut self, name: &'n str) -> Result<usize, BuildError>
-        ensures { Puts self.old.nodes.items self.new.nodes.items
+        ensures puts { Puts self.old.nodes.items self.new.nodes.items
             (IsOf (universal 1) kinds.Boolean) result }
+        ensures names { PutsNames self.old self.new (HasName name.now) result }
+        ensures named { IsNamed self.old → IsNamed self.new }
     {
         self.plain(name, 1, Kind::Boolean)
     }
 
     /// NULL.
     pub fn null(&mut self, name: &'n str) -> Result<usize, BuildError>
-        ensures { Puts self.old.nodes.items self.new.nodes.items
+        ensures puts { Puts self.old.nodes.items self.new.nodes.items
             (IsOf (universal 5) kinds.Null) result }
+        ensures names { PutsNames self.old self.new (HasName name.now) result }
+        ensures named { IsNamed self.old → IsNamed self.new }
     {
         self.plain(name, 5, Kind::Null)
     }
 
     /// INTEGER, with numbers that have names, or with none.
     pub fn integer(&mut self, name: &'n str, numbers: &[PartName<'n>]) -> Result<usize, BuildError>
-        ensures { Puts self.old.nodes.items self.new.nodes.items
+        ensures puts { Puts self.old.nodes.items self.new.nodes.items
             (IsOf (universal 2) kinds.Integer) result }
+        ensures names { PutsNames self.old self.new (HasLabels name.now numbers.now) result }
+        ensures named { IsNamed self.old → IsNamed self.new }
     {
         let labels = Vec::from_slice(self.alloc, numbers)?;
         self.tagged(name, universal(2), Kind::Integer, labels)
@@ -267,8 +284,10 @@ impl<'n> Schema<'n> {
         numbers: &[PartName<'n>],
         extensible: bool,
     ) -> Result<usize, BuildError>
-        ensures { Puts self.old.nodes.items self.new.nodes.items
+        ensures puts { Puts self.old.nodes.items self.new.nodes.items
             (IsLike (universal 10) (IsListed numbers.now extensible)) result }
+        ensures names { PutsNames self.old self.new (HasLabels name.now numbers.now) result }
+        ensures named { IsNamed self.old → IsNamed self.new }
     {
         let labels = Vec::from_slice(self.alloc, numbers)?;
         let listed = listed_numbers(self.alloc, numbers)?;
@@ -282,16 +301,20 @@ impl<'n> Schema<'n> {
 
     /// BIT STRING, with no names.
     pub fn bits(&mut self, name: &'n str) -> Result<usize, BuildError>
-        ensures { Puts self.old.nodes.items self.new.nodes.items
+        ensures puts { Puts self.old.nodes.items self.new.nodes.items
             (IsOf (universal 3) (kinds.Bits false)) result }
+        ensures names { PutsNames self.old self.new (HasName name.now) result }
+        ensures named { IsNamed self.old → IsNamed self.new }
     {
         self.plain(name, 3, Kind::Bits(false))
     }
 
     /// BIT STRING whose bits have names: zeros at its end say nothing (X.680 22.7).
     pub fn named_bits(&mut self, name: &'n str, bits: &[PartName<'n>]) -> Result<usize, BuildError>
-        ensures { Puts self.old.nodes.items self.new.nodes.items
+        ensures puts { Puts self.old.nodes.items self.new.nodes.items
             (IsOf (universal 3) (kinds.Bits true)) result }
+        ensures names { PutsNames self.old self.new (HasLabels name.now bits.now) result }
+        ensures named { IsNamed self.old → IsNamed self.new }
     {
         let labels = Vec::from_slice(self.alloc, bits)?;
         self.tagged(name, universal(3), Kind::Bits(true), labels)
@@ -299,48 +322,60 @@ impl<'n> Schema<'n> {
 
     /// OCTET STRING.
     pub fn octets(&mut self, name: &'n str) -> Result<usize, BuildError>
-        ensures { Puts self.old.nodes.items self.new.nodes.items
+        ensures puts { Puts self.old.nodes.items self.new.nodes.items
             (IsOf (universal 4) kinds.Octets) result }
+        ensures names { PutsNames self.old self.new (HasName name.now) result }
+        ensures named { IsNamed self.old → IsNamed self.new }
     {
         self.plain(name, 4, Kind::Octets)
     }
 
     /// OBJECT IDENTIFIER.
     pub fn identifier(&mut self, name: &'n str) -> Result<usize, BuildError>
-        ensures { Puts self.old.nodes.items self.new.nodes.items
+        ensures puts { Puts self.old.nodes.items self.new.nodes.items
             (IsOf (universal 6) (kinds.Identifier false)) result }
+        ensures names { PutsNames self.old self.new (HasName name.now) result }
+        ensures named { IsNamed self.old → IsNamed self.new }
     {
         self.plain(name, 6, Kind::Identifier(false))
     }
 
     /// RELATIVE-OID.
     pub fn relative_identifier(&mut self, name: &'n str) -> Result<usize, BuildError>
-        ensures { Puts self.old.nodes.items self.new.nodes.items
+        ensures puts { Puts self.old.nodes.items self.new.nodes.items
             (IsOf (universal 13) (kinds.Identifier true)) result }
+        ensures names { PutsNames self.old self.new (HasName name.now) result }
+        ensures named { IsNamed self.old → IsNamed self.new }
     {
         self.plain(name, 13, Kind::Identifier(true))
     }
 
     /// A character string.
     pub fn text(&mut self, name: &'n str, kind: TextKind) -> Result<usize, BuildError>
-        ensures { Puts self.old.nodes.items self.new.nodes.items
+        ensures puts { Puts self.old.nodes.items self.new.nodes.items
             (IsOf (universal (text_number kind)) (kinds.Text kind)) result }
+        ensures names { PutsNames self.old self.new (HasName name.now) result }
+        ensures named { IsNamed self.old → IsNamed self.new }
     {
         self.plain(name, text_number(kind), Kind::Text(kind))
     }
 
     /// UTCTime.
     pub fn utc_time(&mut self, name: &'n str) -> Result<usize, BuildError>
-        ensures { Puts self.old.nodes.items self.new.nodes.items
+        ensures puts { Puts self.old.nodes.items self.new.nodes.items
             (IsOf (universal 23) (kinds.Time times.Utc)) result }
+        ensures names { PutsNames self.old self.new (HasName name.now) result }
+        ensures named { IsNamed self.old → IsNamed self.new }
     {
         self.plain(name, 23, Kind::Time(TimeKind::Utc))
     }
 
     /// GeneralizedTime.
     pub fn generalized_time(&mut self, name: &'n str) -> Result<usize, BuildError>
-        ensures { Puts self.old.nodes.items self.new.nodes.items
+        ensures puts { Puts self.old.nodes.items self.new.nodes.items
             (IsOf (universal 24) (kinds.Time times.Generalized)) result }
+        ensures names { PutsNames self.old self.new (HasName name.now) result }
+        ensures named { IsNamed self.old → IsNamed self.new }
     {
         self.plain(name, 24, Kind::Time(TimeKind::Generalized))
     }
@@ -361,8 +396,10 @@ impl<'n> Schema<'n> {
     /// SEQUENCE OF values of the type at a place.
     pub fn sequence_of(&mut self, name: &'n str, of: usize) -> Result<usize, BuildError>
         ensures leads { IfOk result (λ _. of < length self.old.nodes.items) }
-        ensures ok { Puts self.old.nodes.items self.new.nodes.items
+        ensures puts { Puts self.old.nodes.items self.new.nodes.items
             (IsOf (universal 16) (kinds.SequenceOf of)) result }
+        ensures names { PutsNames self.old self.new (HasName name.now) result }
+        ensures named { IsNamed self.old → IsNamed self.new }
     {
         self.check_place(of)?;
         self.plain(name, 16, Kind::SequenceOf(of))
@@ -371,8 +408,10 @@ impl<'n> Schema<'n> {
     /// SET OF values of the type at a place.
     pub fn set_of(&mut self, name: &'n str, of: usize) -> Result<usize, BuildError>
         ensures leads { IfOk result (λ _. of < length self.old.nodes.items) }
-        ensures ok { Puts self.old.nodes.items self.new.nodes.items
+        ensures puts { Puts self.old.nodes.items self.new.nodes.items
             (IsOf (universal 17) (kinds.SetOf of)) result }
+        ensures names { PutsNames self.old self.new (HasName name.now) result }
+        ensures named { IsNamed self.old → IsNamed self.new }
     {
         self.check_place(of)?;
         self.plain(name, 17, Kind::SetOf(of))
@@ -381,8 +420,10 @@ impl<'n> Schema<'n> {
     /// A value of the type at a place, in an element with this tag.
     pub fn explicit(&mut self, tag: TypeTag, of: usize) -> Result<usize, BuildError>
         ensures leads { IfOk result (λ _. of < length self.old.nodes.items) }
-        ensures ok { Puts self.old.nodes.items self.new.nodes.items
+        ensures puts { Puts self.old.nodes.items self.new.nodes.items
             (IsOf tag (kinds.Explicit of)) result }
+        ensures names { PutsNames self.old self.new (HasName []) result }
+        ensures named { IsNamed self.old → IsNamed self.new }
     {
         self.check_place(of)?;
         let labels = Vec::new(self.alloc);
@@ -405,8 +446,10 @@ impl<'n> Schema<'n> {
         parts: &[Part<'n>],
         unknown: Option<usize>,
     ) -> Result<usize, BuildError>
-        ensures { Puts self.old.nodes.items self.new.nodes.items
+        ensures puts { Puts self.old.nodes.items self.new.nodes.items
             (IsLike (universal 16) (IsRow parts.now unknown)) result }
+        ensures names { PutsNames self.old self.new (HasParts name.now parts.now) result }
+        ensures named { IsNamed self.old → IsNamed self.new }
     {
         self.check_parts(parts)?;
         let labels = part_names(self.alloc, parts)?;
@@ -416,8 +459,10 @@ impl<'n> Schema<'n> {
 
     /// SEQUENCE of these fields.
     pub fn sequence(&mut self, name: &'n str, parts: &[Part<'n>]) -> Result<usize, BuildError>
-        ensures { Puts self.old.nodes.items self.new.nodes.items
+        ensures puts { Puts self.old.nodes.items self.new.nodes.items
             (IsLike (universal 16) (IsRow parts.now None)) result }
+        ensures names { PutsNames self.old self.new (HasParts name.now parts.now) result }
+        ensures named { IsNamed self.old → IsNamed self.new }
     {
         self.row(name, parts, None)
     }
@@ -458,10 +503,12 @@ impl<'n> Schema<'n> {
 
     /// Any one element but with these tags, and but the end of contents octets.
     fn unknown(&mut self, tags: Tags) -> Result<usize, BuildError>
-        ensures { Puts self.old.nodes.items self.new.nodes.items
+        ensures puts { Puts self.old.nodes.items self.new.nodes.items
             (λ node. (node.kind ≡ kinds.Any) ×
             Tells (λ id. not (has_tag tags id || is_tag_of id (universal 0))) node.tags)
             result }
+        ensures names { PutsNames self.old self.new (HasName []) result }
+        ensures named { IsNamed self.old → IsNamed self.new }
     {
         let end = one_tag(self.alloc, universal(0))?;
         let node = Node {
@@ -475,8 +522,10 @@ impl<'n> Schema<'n> {
     /// SEQUENCE of these fields and an extension mark. Unknown elements may follow, but none with the tag of a field at
     /// the end that may be left out.
     pub fn open_sequence(&mut self, name: &'n str, parts: &[Part<'n>]) -> Result<usize, BuildError>
-        ensures { PutsOpen self.old.nodes.items self.new.nodes.items (last_places parts.now)
+        ensures puts { PutsOpen self.old.nodes.items self.new.nodes.items (last_places parts.now)
             (λ unknown. IsLike (universal 16) (IsRow parts.now (Some unknown))) result }
+        ensures names { PutsOpenNames self.old self.new (HasParts name.now parts.now) result }
+        ensures named { IsNamed self.old → IsNamed self.new }
     {
         let tags = self.last_tags(parts)?;
         let unknown = self.unknown(tags)?;
@@ -490,8 +539,10 @@ impl<'n> Schema<'n> {
         parts: &[Part<'n>],
         unknown: Option<usize>,
     ) -> Result<usize, BuildError>
-        ensures { Puts self.old.nodes.items self.new.nodes.items
+        ensures puts { Puts self.old.nodes.items self.new.nodes.items
             (IsLike (universal 17) (IsSetRow parts.now unknown)) result }
+        ensures names { PutsNames self.old self.new (HasParts name.now parts.now) result }
+        ensures named { IsNamed self.old → IsNamed self.new }
     {
         self.check_parts(parts)?;
         let labels = part_names(self.alloc, parts)?;
@@ -501,8 +552,10 @@ impl<'n> Schema<'n> {
 
     /// SET of these fields, which stand in any order by BER, and by DER in the order of their tags.
     pub fn set(&mut self, name: &'n str, parts: &[Part<'n>]) -> Result<usize, BuildError>
-        ensures { Puts self.old.nodes.items self.new.nodes.items
+        ensures puts { Puts self.old.nodes.items self.new.nodes.items
             (IsLike (universal 17) (IsSetRow parts.now None)) result }
+        ensures names { PutsNames self.old self.new (HasParts name.now parts.now) result }
+        ensures named { IsNamed self.old → IsNamed self.new }
     {
         self.set_row(name, parts, None)
     }
@@ -521,8 +574,10 @@ impl<'n> Schema<'n> {
 
     /// SET of these fields and an extension mark. Unknown elements may be there, but none with the tag of a field.
     pub fn open_set(&mut self, name: &'n str, parts: &[Part<'n>]) -> Result<usize, BuildError>
-        ensures { PutsOpen self.old.nodes.items self.new.nodes.items (map (λ p. p.of) parts.now)
+        ensures puts { PutsOpen self.old.nodes.items self.new.nodes.items (map (λ p. p.of) parts.now)
             (λ unknown. IsLike (universal 17) (IsSetRow parts.now (Some unknown))) result }
+        ensures names { PutsOpenNames self.old self.new (HasParts name.now parts.now) result }
+        ensures named { IsNamed self.old → IsNamed self.new }
     {
         let tags = self.all_tags(parts)?;
         let unknown = self.unknown(tags)?;
@@ -531,8 +586,9 @@ impl<'n> Schema<'n> {
 
     /// Any one element but the end of contents octets.
     pub fn any(&mut self, name: &'n str) -> Result<usize, BuildError>
-        ensures { Puts self.old.nodes.items self.new.nodes.items
-            IsAnyNode result }
+        ensures puts { Puts self.old.nodes.items self.new.nodes.items IsAnyNode result }
+        ensures names { PutsNames self.old self.new (HasName name.now) result }
+        ensures named { IsNamed self.old → IsNamed self.new }
     {
         let ends = Vec::from_array(self.alloc, [universal(0)])?;
         let node = Node {
@@ -551,8 +607,10 @@ impl<'n> Schema<'n> {
         lower: Option<i128>,
         upper: Option<i128>,
     ) -> Result<usize, BuildError>
-        ensures { Puts self.old.nodes.items self.new.nodes.items
+        ensures puts { Puts self.old.nodes.items self.new.nodes.items
             (IsBounded self.old.nodes.items of lower upper) result }
+        ensures names { PutsNames self.old self.new (HasName name.now) result }
+        ensures named { IsNamed self.old → IsNamed self.new }
     {
         let Some(node) = node_at(&self.nodes, of) else {
             return Err(BuildError::MissingType);
@@ -577,9 +635,11 @@ impl<'n> Schema<'n> {
 
     /// CHOICE among the types of these arms, with their tags.
     pub fn choice(&mut self, name: &'n str, arms: &[ChoiceArm<'n>]) -> Result<usize, BuildError>
-        ensures { Puts self.old.nodes.items self.new.nodes.items
+        ensures puts { Puts self.old.nodes.items self.new.nodes.items
             (λ node. IsChoiceOf (map (λ a. a.of) arms.now) node.kind ×
             AreTagsOf self.old.nodes.items (map (λ a. a.of) arms.now) node.tags) result }
+        ensures names { PutsNames self.old self.new (HasArms name.now arms.now) result }
+        ensures named { IsNamed self.old → IsNamed self.new }
     {
         let tags = self.arm_tags(arms)?;
         let labels = arm_names(self.alloc, arms)?;
@@ -593,8 +653,10 @@ impl<'n> Schema<'n> {
         name: &'n str,
         arms: &[ChoiceArm<'n>],
     ) -> Result<usize, BuildError>
-        ensures { PutsOpen self.old.nodes.items self.new.nodes.items
+        ensures puts { PutsOpen self.old.nodes.items self.new.nodes.items
             (map (λ a. a.of) arms.now) (IsOpenChoice (map (λ a. a.of) arms.now)) result }
+        ensures names { PutsOpenNames self.old self.new (HasArms name.now arms.now) result }
+        ensures named { IsNamed self.old → IsNamed self.new }
     {
         let tags = self.arm_tags(arms)?;
         if matches!(&tags, Tags::AllBut(_)) {
@@ -614,8 +676,10 @@ impl<'n> Schema<'n> {
 
     /// Declares a type with this tag, which is defined later. A table is not sound before.
     pub fn declare(&mut self, name: &'n str, tag: TypeTag) -> Result<usize, BuildError>
-        ensures { Puts self.old.nodes.items self.new.nodes.items
+        ensures puts { Puts self.old.nodes.items self.new.nodes.items
             (IsOf tag (kinds.Within (length self.old.nodes.items) None None)) result }
+        ensures names { PutsNames self.old self.new (HasName name.now) result }
+        ensures named { IsNamed self.old → IsNamed self.new }
     {
         let own = self.nodes.len();
         let labels = Vec::new(self.alloc);
@@ -623,7 +687,9 @@ impl<'n> Schema<'n> {
     }
 
     /// The names of the type at a place.
-    fn names_of(&self, of: usize) -> Result<TypeNames<'n>, BuildError> {
+    fn names_of(&self, of: usize) -> Result<TypeNames<'n>, BuildError>
+        ensures { IfOk result (AreNamesAt self.now.names.items of) }
+    {
         match self.names.get(of) {
             None => Err(BuildError::MissingType),
             Some(names) => Ok(TypeNames {
@@ -640,6 +706,10 @@ impl<'n> Schema<'n> {
         ensures grows { (more : List Node) × (self.new.nodes.items ≡ self.old.nodes.items ++ more) }
         ensures ok { IfOk result (λ place.
             IsUnder self.old.nodes.items self.new.nodes.items place tag of) }
+        ensures names_grow { (more : List TypeNames) ×
+            (self.new.names.items ≡ self.old.names.items ++ more) }
+        ensures names { OnOk result (AreUnder self.old.names.items self.new.names.items of) }
+        ensures named { IsNamed self.old → IsNamed self.new }
     {
         let Some(node) = node_at(&self.nodes, of) else {
             return Err(BuildError::MissingType);
@@ -661,10 +731,14 @@ impl<'n> Schema<'n> {
         }
     }
 
-    /// Tells whether the type at a place is declared, and not yet defined.
+    /// Tells whether the type at a place is declared with its names, and not yet defined.
     fn is_declared(&self, place: usize) -> bool
-        ensures { IsTrue result → place < length self.now.nodes.items }
+        ensures nodes { IsTrue result → place < length self.now.nodes.items }
+        ensures names { IsTrue result → place < length self.now.names.items }
     {
+        if place >= self.names.len() {
+            return false;
+        }
         match node_at(&self.nodes, place) {
             None => false,
             Some(node) => matches!(&node.kind, Kind::Within(inner, _, _) if *inner == place),
@@ -674,11 +748,25 @@ impl<'n> Schema<'n> {
     /// Puts the kind of a type into the table.
     fn set_kind(&mut self, place: usize, kind: Kind)
         requires { place < length self.old.nodes.items }
-        ensures { (declared : Node) → slice_get self.old.nodes.items place ≡ Some declared →
+        ensures nodes { (declared : Node) → slice_get self.old.nodes.items place ≡ Some declared →
             self.new.nodes.items ≡
             slice_set self.old.nodes.items place (record declared { kind = kind }) }
+        ensures names { self.new.names.items ≡ self.old.names.items }
+        ensures named { IsNamed self.old → IsNamed self.new }
     {
         self.nodes[place].kind = kind;
+    }
+
+    /// Puts the labels of a type into the names.
+    fn set_labels(&mut self, place: usize, labels: Vec<PartName<'n>>)
+        requires { place < length self.old.names.items }
+        ensures nodes { self.new.nodes.items ≡ self.old.nodes.items }
+        ensures names { (own : TypeNames) → slice_get self.old.names.items place ≡ Some own →
+            self.new.names.items ≡
+            slice_set self.old.names.items place (record own { labels = labels.entry }) }
+        ensures named { IsNamed self.old → IsNamed self.new }
+    {
+        self.names[place].labels = labels;
     }
 
     /// Defines a declared type as the type at another place under its own tag, as [`Schema::implicit`] does.
@@ -687,6 +775,10 @@ impl<'n> Schema<'n> {
     pub fn define(&mut self, place: usize, of: usize) -> Result<(), BuildError>
         ensures ok { OnOk result (IsDefined self.old.nodes.items self.new.nodes.items place of) }
         ensures err { OnErr result (self.new.nodes.items ≡ self.old.nodes.items) }
+        ensures names { OnOk result
+            (AreDefined self.old.names.items self.new.names.items place of) }
+        ensures names_err { OnErr result (self.new.names.items ≡ self.old.names.items) }
+        ensures named { IsNamed self.old → IsNamed self.new }
     {
         if !self.is_declared(place) {
             return Err(BuildError::NotDeclared);
@@ -700,9 +792,7 @@ impl<'n> Schema<'n> {
         let kind = retagged(self.alloc, of, of, &node.kind)?;
         let TypeNames { labels, .. } = self.names_of(of)?;
         self.set_kind(place, kind);
-        if let Some(names) = self.names.get_mut(place) {
-            names.labels = labels;
-        }
+        self.set_labels(place, labels);
         Ok(())
     }
 }

@@ -1,6 +1,6 @@
 //! The values on a tape: where one ends, and what is in it. Each is skipped in one step.
 ghost use Rattle.std.specs.Prelude.{ℕ, ℤ, Bool, List, [], ◌++◌, ◌∷◌, ◌+◌, ◌-◌, ◌*◌, ◌≡◌, ◌≤◌, ◌^◌, Some, IfSome};
-ghost use Rattle.std.specs.Prelude.{IfNone, MatchOption, OnOk, length, take};
+ghost use Rattle.std.specs.Prelude.{IfNone, IfOk, IsTrue, MatchOption, OnOk, length, take};
 ghost use Rattle.asn1_schema.specs.Values.{leaf};
 ghost use Rattle.asn1_schema.specs.Values.{boolean, integer, enumerated, bits, octets, identifier, text, time};
 ghost use Rattle.asn1_schema.specs.Grammar.{bits_in};
@@ -9,14 +9,18 @@ ghost use Rattle.asn1_schema.specs.declared.schema.TextKind.{TextKind};
 ghost use Rattle.asn1_schema.specs.declared.schema.TimeKind.{TimeKind};
 ghost use Rattle.asn1_schema.specs.Tape.{Mark, Kept, KeptRow, mark, marks, tape_of, tapes_of};
 ghost use Rattle.asn1_schema.specs.Tape.{Sort, string, value_of, kept_row, kept_chosen, absent_mark, leaf_mark};
-ghost use Rattle.asn1_schema.specs.Cursor.{marks_of_first, field_marks, IsNumber};
+ghost use Rattle.asn1_schema.specs.Tape.{pieces_mark};
+ghost use Rattle.asn1_schema.specs.Cursor.{marks_of_first, field_marks, IsNumber, HoldPieces, AppendsBits};
 
 use crate::counting::inner_items;
+use crate::fault::Fault;
 use crate::joined::octets_in;
 use crate::names::{TypeNames, place_of};
+use crate::put_bits::put_bit_pieces;
 use crate::schema::{TextKind, TimeKind};
 use crate::tape::Item;
-use std::alloc::AllocError;
+use asn1_headers::buffer::DerBuffer;
+use std::alloc::{AllocError, Global};
 use x690::signed::signed_number;
 
 /// How many items a value has that begins with this one; none where a value of an arm follows.
@@ -160,6 +164,79 @@ pub fn join_octets(value: &[Item<'_>], octets: &mut Vec<u8>) -> Result<(), Alloc
         octets.extend_from_slice(octets_in(item))?;
     }
     Ok(())
+}
+
+/// Whether an item is the mark of pieces that follow.
+fn begins_pieces(item: &Item<'_>) -> bool
+    ensures yes { IsTrue result → (n : ℕ) × (mark item.now ≡ pieces_mark n) }
+    ensures no { (n : ℕ) → mark item.now ≡ pieces_mark n → IsTrue result }
+{
+    match item {
+        Item::Pieces(_) => true,
+        _ => false,
+    }
+}
+
+/// Whether items begin with the mark of pieces.
+fn is_in_pieces(value: &[Item<'_>]) -> bool
+    ensures yes { IsTrue result → (n : ℕ) × (others : List Mark) ×
+        (marks value.now ≡ pieces_mark n ∷ others) }
+    ensures no { (n : ℕ) (others : List Mark) → marks value.now ≡ pieces_mark n ∷ others →
+        IsTrue result }
+{
+    match value.split_first() {
+        Some((item, _others)) => begins_pieces(item),
+        None => false,
+    }
+}
+
+/// Where the pieces of a bit string begin and end among its items. Bits in one piece are one.
+fn piece_places(value: &[Item<'_>]) -> (usize, usize)
+    ensures order { result.0 ≤ result.1 }
+    ensures within { result.1 ≤ length value.now }
+    ensures pieces { (kept : Kept) (bs : List Bool) → marks value.now ≡ tape_of kept →
+        value_of kept ≡ leaf (bits bs) → HoldPieces value.now result.0 result.1 bs }
+{
+    if is_in_pieces(value) {
+        (1, value.len().max(2) - 1)
+    } else {
+        (0, value.len())
+    }
+}
+
+/// Appends what follows the first of contents octets, and answers that first one.
+fn push_behind_first(content: &[u8], octets: &mut Vec<u8>) -> Result<Option<u8>, AllocError>
+    ensures { (first : ℕ) (o : List ℕ) → content.now ≡ first ∷ o → IfOk result
+        (λ r. (r ≡ Some first) × (octets.new.items ≡ octets.old.items ++ o)) }
+{
+    match content.split_first() {
+        None => Ok(None),
+        Some((first, behind)) => {
+            octets.extend_from_slice(behind)?;
+            Ok(Some(*first))
+        }
+    }
+}
+
+/// Appends the octets of a bit string to others, and answers how many bits of the last one are unused. Pieces are
+/// joined (X.690 8.6.4), and unused bits are zeros (11.2.1). `None` comes where the value is no bit string.
+pub fn join_bits(
+    alloc: Global,
+    value: &[Item<'_>],
+    octets: &mut Vec<u8>,
+) -> Result<Option<u8>, AllocError>
+    ensures { (kept : Kept) (bs : List Bool) → marks value.now ≡ tape_of kept →
+        value_of kept ≡ leaf (bits bs) →
+        IfOk result (AppendsBits bs octets.old.items octets.new.items) }
+{
+    let (start, end) = piece_places(value);
+    let mut content = DerBuffer::new(alloc);
+    match put_bit_pieces(value, start, end, &mut content) {
+        Ok(()) => push_behind_first(content.as_bytes(), octets),
+        Err(Fault::Memory) => Err(AllocError),
+        Err(Fault::Refused) => Ok(None),
+        Err(Fault::TooDeep) => Ok(None),
+    }
 }
 
 /// The octets of an octet string in one piece.

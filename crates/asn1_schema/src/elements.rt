@@ -1,11 +1,12 @@
 //! Elements at the front of octets (X.690 8.1).
 ghost use Rattle.asn1_headers.specs.declared.length.Length.TheVariants as lengths;
-ghost use Rattle.std.specs.Prelude.{[], ℕ, ◌≡◌, true, false, IfSome, IfNone, IsTrue};
+ghost use Rattle.std.specs.Prelude.{[], ℕ, ◌≡◌, ◌+◌, ◌<◌, ◌^◌, true, false, IfSome, IfNone, IsTrue};
 ghost use Rattle.x690.specs.Elements.{IsDerElement};
 ghost use Rattle.x690.specs.Nested.{IsElement};
 ghost use Rattle.x690.specs.Joined.{NoPrefix};
 ghost use Rattle.asn1_headers.specs.Answers.{Front};
 ghost use Rattle.asn1_schema.specs.Reading.{rules_of, parts_of};
+ghost use Rattle.asn1_schema.specs.Refusals.{ending_of};
 
 use crate::coding::Coding;
 use crate::refusal::further;
@@ -30,6 +31,17 @@ pub struct Head {
     pub inner: usize,
 }
 
+/// Where the contents octets of an element begin that begins at a place. It and what follows have so many octets, and
+/// behind contents octets of indefinite length stand two that end them (X.690 8.1.5).
+fn contents_at(at: usize, all: usize, content: usize, rest: usize, indefinite: bool) -> usize
+    ensures { (header : ℕ) → all ≡ header + (content + (ending_of indefinite + rest)) →
+        at + all < 2 ^ 64 → result ≡ at + header }
+{
+    let ending = if indefinite { 2 } else { 0 };
+    let behind = content.saturating_add(rest).saturating_add(ending);
+    further(at, all, behind)
+}
+
 /// The rest, what the header says, and the contents octets of the element at the front, by DER.
 pub(crate) fn der_element(octets: &[u8], at: usize) -> Option<(&[u8], Head, &[u8])>
     ensures some { IfSome result (λ x. Front IsDerElement octets.now (parts_of x.1 x.2.now)
@@ -47,7 +59,7 @@ pub(crate) fn der_element(octets: &[u8], at: usize) -> Option<(&[u8], Head, &[u8
                 indefinite: false,
                 number,
                 start: at,
-                inner: further(at, octets.len(), further(content.len(), rest.len(), 0)),
+                inner: contents_at(at, octets.len(), content.len(), rest.len(), false),
             };
             Some((rest, head, content))
         }
@@ -87,7 +99,7 @@ fn ber_element(octets: &[u8], max: usize, at: usize) -> Option<(&[u8], Head, &[u
                 indefinite,
                 number,
                 start: at,
-                inner: further(at, octets.len(), further(content.len(), rest.len(), 0)),
+                inner: contents_at(at, octets.len(), content.len(), rest.len(), indefinite),
             };
             Some((rest, head, content))
         }

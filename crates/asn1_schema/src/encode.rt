@@ -1,17 +1,21 @@
 //! Values of the types of a table, written by DER: each as its one strict encoding.
-ghost use Rattle.std.specs.Prelude.{[], ◌≡◌, ◌≢◌, true, OnOk, OnErr, IfOk, IsErrOf};
+ghost use Rattle.std.specs.Prelude.{ℕ, [], ◌≡◌, ◌≢◌, ◌⊎◌, true, Ok, Err, OnOk, OnErr, IfOk, IsErrOf};
+ghost use Rattle.asn1_headers.specs.declared.error.SerializeError.{SerializeError};
 ghost use Rattle.asn1_schema.specs.declared.encode.EncodeError.TheVariants as errors;
+ghost use Rattle.asn1_schema.specs.declared.encode.WriteError.TheVariants as write_errors;
 ghost use Rattle.asn1_schema.specs.declared.fault.Fault.TheVariants as faults;
 ghost use Rattle.asn1_schema.specs.Grammar.{Word};
 ghost use Rattle.asn1_schema.specs.Rules.{strict};
 ghost use Rattle.asn1_schema.specs.Sound.{is_sound};
-ghost use Rattle.asn1_schema.specs.Encoding.{Encodes, IsOfNoWord};
+ghost use Rattle.asn1_schema.specs.Encoding.{Encodes, EncodesTo, IsOfNoWord};
 
 use crate::fault::Fault;
 use crate::schema::Node;
 use crate::tape::Item;
 use crate::writing::put_value;
 use asn1_headers::buffer::{DerBuffer, keep_last};
+use asn1_headers::error::SerializeError;
+use asn1_headers::writer::{DerWrite, put_all};
 use std::alloc::{AllocError, Global};
 
 /// Why a tape is not written.
@@ -109,5 +113,54 @@ pub fn encode_der_vec(
             Err(_) => Err(EncodeError::OutOfMemory),
         },
         Err(error) => Err(error),
+    }
+}
+
+/// Why a tape is not written to a writer.
+#[derive(Debug, Drop, thiserror::Error)]
+pub enum WriteError {
+    /// Memory ran out.
+    #[error("out of memory")]
+    OutOfMemory,
+    /// The tape is that of no value of the type that has a strict encoding.
+    #[error("the tape has no value of the type with a strict encoding")]
+    Refused,
+    /// The writer failed, and this is what it says.
+    #[error("{0}")]
+    Writer(SerializeError),
+}
+
+/// Appends the one strict encoding of a value of a type of a sound table to a writer, and answers its length.
+///
+/// The octets are those that [`encode_der`] puts in front of none. They are made before the writer is called. So a
+/// writer that fails may hold a beginning of them, and after each other `Err` it is as it was.
+pub fn encode_der_to<W: DerWrite>(
+    alloc: Global,
+    table: &[Node],
+    of: usize,
+    depth: usize,
+    tape: &[Item<'_>],
+    w: &mut W,
+) -> Result<usize, WriteError>
+    requires { is_sound table.now ≡ true }
+    ensures ok { (n : ℕ) → result ≡ Ok n →
+        EncodesTo (Word strict table.now depth of) tape.now (W.state w.old) (W.state w.new)
+        (Ok n) }
+    ensures failed { (e : SerializeError) → result ≡ Err (write_errors.Writer e) →
+        EncodesTo (Word strict table.now depth of) tape.now (W.state w.old) (W.state w.new)
+        (Err e) }
+    ensures refused { IsErrOf result write_errors.Refused →
+        IsOfNoWord (Word strict table.now depth of) tape.now }
+    ensures unchanged { (IsErrOf result write_errors.Refused) ⊎
+        (IsErrOf result write_errors.OutOfMemory) → w.new ≡ w.old }
+{
+    let mut buf = DerBuffer::new(alloc);
+    match encode_der(table, of, depth, tape, &mut buf) {
+        Ok(()) => match put_all(w, buf.as_bytes()) {
+            Ok(n) => Ok(n),
+            Err(e) => Err(WriteError::Writer(e)),
+        },
+        Err(EncodeError::OutOfMemory) => Err(WriteError::OutOfMemory),
+        Err(EncodeError::Refused) => Err(WriteError::Refused),
     }
 }

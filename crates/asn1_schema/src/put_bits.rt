@@ -175,7 +175,7 @@ fn push_pieces(
 }
 
 /// Puts the contents octets of the bits of pieces between two places in front.
-fn put_bit_pieces(
+pub(crate) fn put_bit_pieces(
     tape: &[Item<'_>],
     start: usize,
     end: usize,
