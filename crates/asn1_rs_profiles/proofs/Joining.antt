@@ -1,6 +1,6 @@
 -- Pieces that are joined one behind another.
-use Rattle.std.proofs.Common.{◌≡◌, ◌∙◌, ap, sym, subst, refl, ℕ, ◌-◌, ◌<◌, ◌⊎◌, Bool, true, false, List, [], ◌∷◌, ◌++◌, length}
-use Rattle.std.proofs.Common.{append_assoc, append-nil, arith, inl, inr, length-append}
+use Rattle.std.proofs.Common.{◌≡◌, ◌∙◌, ap, sym, subst, refl, ℕ, ◌-◌, ◌<◌, ◌⊎◌, Bool, true, false, List, [], ◌∷◌, ◌++◌}
+use Rattle.std.proofs.Common.{length, append_assoc, append-nil, arith, inl, inr, length-append}
 use Rattle.std.specs.Prelude.{Result, Ok, Err, MatchResult}
 use Rattle.x690.specs.Elements.{Parts}
 use Rattle.x690.specs.Joined.{NoPrefix}
@@ -11,8 +11,9 @@ use Rattle.asn1_headers.specs.Ber.{max_depth}
 use Rattle.asn1_headers.specs.declared.error.Error.{Error}
 use Rattle.asn1_headers.specs.declared.error.Error.TheVariants.{BerValueError, OutOfMemory}
 use Rattle.asn1_rs.specs.Grammar.{BerWord}
-use Rattle.asn1_rs_profiles.specs.Joined.Laws.{IsJoinedSoFar, all_joined, constructed_said, constructed_says, none_follows}
-use Rattle.asn1_rs_profiles.specs.Joined.Laws.{none_joined, none_said, one_joined, one_piece, primitive_says}
+use Rattle.asn1_rs_profiles.specs.Joined.Laws.{IsJoinedSoFar, all_joined, constructed_said, constructed_says}
+use Rattle.asn1_rs_profiles.specs.Joined.Laws.{none_follows, none_joined, none_said, one_joined, one_piece}
+use Rattle.asn1_rs_profiles.specs.Joined.Laws.{primitive_says}
 use Rattle.asn1_rs_profiles.specs.Joined.Pieces.{ArePieces, BeginsWithPiece, HasNoPiece, IsPiece, IsPieceTag, Joins}
 use Rattle.asn1_rs_profiles.specs.Joined.Pieces.{SaysOctets}
 
@@ -41,8 +42,11 @@ module _ (depth : ℕ) (p : Parts) (content old new : List ℕ) (is : p.content 
     j.2,
   )
   joins_constructed (Err e) some constructed (inl m) = inl m
-  joins_constructed (Err e) some constructed (inr n) = inr (n.0, λ v s. n.1 v
-      (subst (λ (z : List ℕ). ArePieces (depth - 1) z v) is (constructed_said depth p v constructed s)))
+  joins_constructed (Err e) some constructed (inr n) = inr (
+    n.0,
+    λ v s. n.1 v
+        (subst (λ (z : List ℕ). ArePieces (depth - 1) z v) is (constructed_said depth p v constructed s)),
+  )
 
 -- All pieces.
 

@@ -65,10 +65,7 @@ impl<'a> ReadsFieldsByBer<'a> for JoinedContentInfo<'a> {
     ghost fields_give_by_ber = { MadeOf ⟦<JoinedContentInfo<'a> as LawfulStruct>⟧.laws.as_row
         ⟦<JoinedContentRow<'a> as ReadsRow<'a, BerParser>>⟧.row_gives };
 
-    fn read_fields_by_ber(
-        alloc: Global,
-        octets: &'a [u8],
-    ) -> Result<JoinedContentInfo<'a>, Error> {
+    fn read_fields_by_ber(alloc: Global, octets: &'a [u8]) -> Result<JoinedContentInfo<'a>, Error> {
         read_fields!(row_by_ber, alloc, octets => JoinedContentInfo { content_type, content })
     }
 }
@@ -95,10 +92,7 @@ pub fn read_content_info_by_ber<'a>(
 
 /// The one strict encoding of a content in DER form. Where its length fits `usize`, it is refused only when out of
 /// memory.
-pub fn content_info_vec(
-    alloc: Global,
-    content: &JoinedContentInfo<'_>,
-) -> SerializeResult<Vec<u8>>
+pub fn content_info_vec(alloc: Global, content: &JoinedContentInfo<'_>) -> SerializeResult<Vec<u8>>
     ensures { ⟦<JoinedContentInfo<'static> as Grammar>⟧.grammar.IsDer
         (⟦<JoinedContentInfo<'static> as Grammar>⟧.grammar.value content.now) →
         WritesStrict ⟦<JoinedContentInfo<'static> as Grammar>⟧.grammar

@@ -88,8 +88,8 @@ fn string_of<'a, K: JoinedKind>(any: &Any<'a>) -> Result<Primitive<'a, K>, Error
     Ok(Primitive::new(any.content))
 }
 
-/// Lends the contents octets. Refused in this order: another tag number with `UnexpectedTag`, a constructed element with
-/// `ConstructUnexpected`, octets that the type does not have with `StringInvalidCharset`.
+/// Lends the contents octets. Refused in this order: another tag number with `UnexpectedTag`, a constructed element
+/// with `ConstructUnexpected`, octets that the type does not have with `StringInvalidCharset`.
 impl<'a, K: JoinedKind> ConvertsLeaf<'a> for Primitive<'a, K> {
     fn convert_leaf(_alloc: Global, any: Any<'a>) -> Result<Primitive<'a, K>, Error> {
         string_of(&any)

@@ -4,6 +4,7 @@ use Rattle.std.specs.Prelude.{nat_eq, Result, Ok, Err}
 use Rattle.std.specs.Cmp.{unsigned_Decides}
 use Rattle.std.specs.Cmp.Lexicographic.{pointwise, pointwise_decides}
 use Rattle.x690.specs.Identifiers.{Identifier}
+use Rattle.x690.specs.Elements.{Parts}
 use Rattle.x690.specs.Octets.{IsOctets}
 use Rattle.x690.specs.Laws.Equality.{octets_set}
 use Rattle.asn1_headers.specs.Ber.{max_depth}
@@ -20,8 +21,8 @@ use Rattle.asn1_rs.specs.Laws.Forms.{universal_fits, universal_one, universal_va
 use Rattle.asn1_rs.specs.LeafReading.{IsExactReading}
 use Rattle.asn1_rs.specs.Structs.Data.{LawfulTypeOf}
 use Rattle.asn1_rs.specs.Structs.Types.{element_type}
-use Rattle.asn1_rs_profiles.specs.Joined.{JoinedBody, IsStrictContent, JoinedGives, JoinedRefuses, joined_element, joined_reading}
-use Rattle.asn1_rs_profiles.specs.Joined.{octets_in}
+use Rattle.asn1_rs_profiles.specs.Joined.{IsStrictContent, JoinedBody, JoinedGives, JoinedRefuses, joined_element}
+use Rattle.asn1_rs_profiles.specs.Joined.{joined_reading, octets_in}
 use Rattle.asn1_rs_profiles.specs.Joined.Laws.{primitive_says, says_octets, says_one}
 use Rattle.asn1_rs_profiles.specs.Joined.Pieces.{SaysOctets}
 use Rattle.asn1_rs_profiles.specs.declared.joined.Joined.{Joined}
@@ -41,6 +42,15 @@ takes number IsText primitive class v i c e f =
       ),
     )
 
+-- a refusal comes only where there is no value, or when out of memory
+refused : {T : Type 0} (value : T → List ℕ) (number : ℕ) (IsText : List ℕ → Type 0) (p : Parts) (e : Error) →
+    JoinedRefuses IsText p e →
+    TakesBody (JoinedBody number IsText) value true (λ (x y : Error). y ≡ x) p (Err e)
+refused value number IsText p e (inl (k, inl m)) = inl (refl, m)
+refused value number IsText p e (inl (k, inr n)) = inr (λ v b. n.1 v b.1)
+refused value number IsText p e (inr n) =
+    inr (λ v b. n.0.2 (subst IsText (says_one max_depth p v n.0.0 b.1 n.0.1) b.2))
+
 module _ {K : Type 0} (number : ℕ) (IsText : List ℕ → Type 0) (small : number < 31)
     (primitive : is_container_number number ≡ false) where
   -- Such strings are lawful elements.
@@ -51,7 +61,8 @@ module _ {K : Type 0} (number : ℕ) (IsText : List ℕ → Type 0) (small : num
     form_values = λ v i c f. f.1.0.0;
     body_one = λ p v w a b. says_one max_depth p v w a.1 b.1;
     one_form = universal_one (is_container_number number) number (IsStrictContent IsText) (λ v c d f g. f.1 ∙ sym g.1);
-    one_value = universal_value (is_container_number number) number (IsStrictContent IsText) (λ v w c f g. sym f.1 ∙ g.1);
+    one_value = universal_value (is_container_number number) number (IsStrictContent IsText)
+        (λ v w c f g. sym f.1 ∙ g.1);
     form_fits = universal_fits (is_container_number number) number (IsStrictContent IsText) small
         (λ v c f. subst IsOctets (sym f.1) f.0.0);
     form_check = λ v i c f. (takes number IsText primitive i.class v i c f.0 f.1).0;
@@ -59,24 +70,16 @@ module _ {K : Type 0} (number : ℕ) (IsText : List ℕ → Type 0) (small : num
     form_body = λ v i c f. (takes number IsText primitive i.class v i c f.0 f.1).1;
   }
 
-  -- a refusal comes only where there is no value, or when out of memory
-  refused : (any : Any) (e : Error) → JoinedRefuses IsText (parts_of any) e →
-      TakesBody {T = Joined K} (JoinedBody number IsText) octets_in true (λ (x y : Error). y ≡ x) (parts_of any) (Err e)
-  refused any e (inl (k, inl m)) = inl (refl, m)
-  refused any e (inl (k, inr n)) = inr (λ v b. n.1 v b.1)
-  refused any e (inr n) = inr (λ v b. n.0.2
-      (subst IsText (says_one max_depth (parts_of any) v n.0.0 b.1 n.0.1) b.2))
-
   -- Their conversion is exact.
   pub joined_converts : IsExactConversion (JoinedGives number IsText) (joined_element {K = K} number IsText)
   joined_converts = record { exact = exact; asks_no_memory = λ none any h. let e = none in cc }
     where
       exact : (any : Any) (answer : Result (Joined K) Error) → IsOctets any.content.now →
           JoinedGives number IsText any answer →
-          TakesBody (JoinedBody number IsText) octets_in true (λ (x y : Error). y ≡ x) (parts_of any) answer
+          TakesBody (JoinedBody number IsText) (octets_in {K = K}) true (λ (x y : Error). y ≡ x) (parts_of any) answer
       exact any (Ok x) o g = g.0
       exact any (Err e) o (inl g) = inr (λ v b. g.0 b.0)
-      exact any (Err e) o (inr g) = refused any e g.1
+      exact any (Err e) o (inr g) = refused (octets_in {K = K}) number IsText (parts_of any) e g.1
 
   -- So reading them is.
   pub joined_exact : IsExactReading (joined_reading {K = K} number IsText)

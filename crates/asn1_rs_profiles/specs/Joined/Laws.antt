@@ -89,7 +89,8 @@ says_one (suc depth) p v w (inl i) (inl j) = sym i.1 ∙ j.1
 says_one (suc depth) p v w (inl i) (inr j) = absurd (cc (i.0, j.0))
 says_one (suc depth) p v w (inr i) (inl j) = absurd (cc (i.0, j.0))
 says_one (suc depth) p v w (inr i) (inr j) =
-    joined_one (BerWord (IsPiece depth)) (word_one (IsElement max_depth) NoCheck (IsPiece depth) (nested_words max_depth)
+    joined_one (BerWord (IsPiece depth))
+    (word_one (IsElement max_depth) NoCheck (IsPiece depth) (nested_words max_depth)
     (λ q x y a b. says_one depth q x y a.1 b.1)) p.content v w i.1 j.1
 
 -- one piece alone begins octets
@@ -108,13 +109,15 @@ says_octets (suc depth) p v o (inr s) = subst IsOctets (sym s.1.2)
     p.content s.1.0 s.1.1)
 
 -- a primitive string says its contents octets
-pub primitive_says : (depth : ℕ) (p : Parts) → (depth ≡ 0 → ⊥) → p.id.constructed ≡ false → SaysOctets depth p p.content
+pub primitive_says : (depth : ℕ) (p : Parts) → (depth ≡ 0 → ⊥) → p.id.constructed ≡ false →
+    SaysOctets depth p p.content
 unfolding SaysOctets
 primitive_says zero p some primitive = absurd (some refl)
 primitive_says (suc depth) p some primitive = inl (primitive, refl)
 
 -- and nothing else
-pub primitive_said : (depth : ℕ) (p : Parts) (v : List ℕ) → p.id.constructed ≡ false → SaysOctets depth p v → p.content ≡ v
+pub primitive_said : (depth : ℕ) (p : Parts) (v : List ℕ) → p.id.constructed ≡ false → SaysOctets depth p v →
+    p.content ≡ v
 unfolding SaysOctets
 primitive_said zero p v primitive s = absurd s
 primitive_said (suc depth) p v primitive (inl s) = s.1

@@ -7,9 +7,8 @@ mod kinds;
 mod pieces;
 mod reading;
 
-pub use kinds::{JoinedKind, OctetKind};
-
 use asn1_rs::author::{ElementKind, HasKind, LeafField};
+pub use kinds::{JoinedKind, OctetKind};
 use std::alloc::Global;
 use std::borrow::CowSlice;
 use std::marker::PhantomData;

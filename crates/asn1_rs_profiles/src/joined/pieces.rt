@@ -14,6 +14,7 @@ use std::alloc::Global;
 use std::borrow::CowSlice;
 
 /// How deep strings nest, the whole one and its pieces.
+// Calls nest as deep as the pieces do, so that octets can't exhaust the stack.
 const DEPTH: usize = 50;
 
 /// Whether no octets are left.

@@ -1,7 +1,6 @@
-use Rattle.std.proofs.Common.{rules, ◌≡◌, ◌<◌, ◌∙◌, refl, sym, arith, length}
-use Rattle.std.proofs.lemmas.Bool.{not-true, not-false}
-use Rattle.asn1_rs_profiles.proofs.Joining.{all_appended, joins_constructed, joins_primitive, next_refused, none_appended}
-use Rattle.asn1_rs_profiles.proofs.Joining.{none_next, one_appended, piece_shorter, too_deep}
+use Rattle.std.proofs.Common.{rules, ◌<◌, ◌∙◌, refl, arith, length}
+use Rattle.asn1_rs_profiles.proofs.Joining.{all_appended, joins_constructed, joins_primitive, next_refused}
+use Rattle.asn1_rs_profiles.proofs.Joining.{none_appended, none_next, one_appended, piece_shorter, too_deep}
 use Rattle.asn1_rs_profiles.proofs.joined.pieces.+pieces.Goals as goal
 
 pub push_piece-returns-then-depth-eq0 : goal.push_piece-returns-then-depth-eq0

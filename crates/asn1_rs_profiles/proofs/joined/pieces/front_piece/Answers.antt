@@ -11,4 +11,5 @@ returns-then-not-is_piece-clause-none c = other_tag c.args.octets.now c.in-Ok.re
 
 pub returns-clause-none : goal.returns-clause-none
 returns-clause-none c = λ word rest p is a tag.
-    element_or_fault max_depth c.args.octets.now word rest p a.0 c.in-Err.ensures.gives.0 c.in-Err.ensures.gives.1 a.1 is
+    element_or_fault max_depth c.args.octets.now word rest p a.0 c.in-Err.ensures.gives.0 c.in-Err.ensures.gives.1 a.1
+    is

@@ -1,4 +1,4 @@
-use Rattle.std.proofs.Common.{◌≡◌, ◌∙◌, sym, arith}
+use Rattle.std.proofs.Common.{◌∙◌, sym, arith}
 use Rattle.asn1_headers.specs.Ber.{max_depth}
 use Rattle.asn1_headers.specs.Elements.{element_parts}
 use Rattle.asn1_rs_profiles.specs.Joined.Laws.{primitive_says}
@@ -8,7 +8,8 @@ use Rattle.asn1_rs_profiles.proofs.joined.pieces.joined_octets.Goals as goal
 pub returns-then-not-constructed : goal.returns-then-not-constructed
 returns-then-not-constructed c =
     let bit = sym c.constructed.ensures ∙ c.if-not-constructed.true in
-    (primitive_says max_depth (element_parts c.args.header.now c.args.content.now) (λ e. absurd (omega (arith, e))) bit, λ e. tt)
+    let p = element_parts c.args.header.now c.args.content.now in
+    (primitive_says max_depth p (λ e. absurd (omega (arith, e))) bit, λ e. tt)
 
 pub returns-in-Ok : goal.returns-in-Ok
 returns-in-Ok c =
