@@ -9,6 +9,7 @@
 
 mod accuracy;
 mod content_info;
+mod fields;
 mod header_data;
 mod joined;
 mod primitive;

@@ -5,13 +5,12 @@ ghost use Rattle.asn1_rs.specs.Checks.{is_primitive};
 ghost use Rattle.asn1_rs.specs.Leaf.{LeafGives};
 ghost use Rattle.asn1_rs.specs.LeafReading.{leaf_reading};
 ghost use Rattle.asn1_rs.specs.Laws.Leaf.{leaf_exact, leaf_written};
-ghost use Rattle.asn1_rs.specs.Structs.Types.{leaf_type};
 ghost use Rattle.asn1_rs_profiles.specs.Primitive.{octets_in, primitive_leaf};
 ghost use Rattle.asn1_rs_profiles.specs.Primitive.Laws.{primitive_equal, primitive_lawful};
 
 use crate::joined::{JoinedKind, OctetKind};
 use asn1_rs::author::{
-    ConvertsLeaf, DerElement, ElementKind, HasKind, LawfulType, LeafField, LeafType, WritesOctets,
+    ConvertsLeaf, DerElement, ElementKind, HasKind, LeafField, LeafType, WritesOctets,
 };
 use asn1_rs::laws::{LawfulMember, assert_octets_valid};
 use asn1_rs::{Any, Error, Tagged};
@@ -114,9 +113,4 @@ impl<K: JoinedKind> WritesOctets for Primitive<'_, K> {
 
 impl<K: JoinedKind> LawfulMember for Primitive<'_, K> {
     ghost same = { primitive_equal };
-}
-
-impl<K: JoinedKind> LawfulType for Primitive<'_, K> {
-    ghost type_laws = { leaf_type (primitive_leaf (K.Number.TAG).0 K.IsText)
-        (primitive_lawful (K.Number.TAG).0 K.IsText K.small K.primitive) };
 }

@@ -9,6 +9,8 @@ use Rattle.asn1_headers.specs.declared.error.Error.TheVariants.{StringInvalidCha
 use Rattle.asn1_rs.specs.Checks.{content_check, is_primitive}
 use Rattle.asn1_rs.specs.Laws.Checks.{before_is, content_check_is, is_primitive_is}
 use Rattle.asn1_rs.specs.Leaf.{IsLawfulLeaf}
+use Rattle.asn1_rs.specs.Structs.Data.{LawfulTypeOf}
+use Rattle.asn1_rs.specs.Structs.Types.{leaf_type}
 use Rattle.asn1_rs_profiles.specs.Primitive.{octets_in, primitive_leaf}
 use Rattle.asn1_rs_profiles.specs.declared.primitive.Primitive.{Primitive}
 
@@ -29,6 +31,12 @@ primitive_lawful number IsText small primitive = record {
   der_checks = λ k v d. (primitive, d.1);
   der_constraints = λ k v d. primitive;
 }
+
+-- They are fields of structs.
+abbrev pub primitive_type : {K : Type 0} (number : ℕ) (IsText : List ℕ → Type 0) → number < 31 →
+    is_container_number number ≡ false → LawfulTypeOf (Primitive K)
+primitive_type number IsText small primitive =
+    leaf_type (primitive_leaf number IsText) (primitive_lawful number IsText small primitive)
 
 -- two are equal where their octets are
 pub primitive_equal : {K : Type 0} (x y : Primitive K) →

@@ -19,7 +19,7 @@ use std::marker::PhantomData;
 /// in pieces is copied, piece behind piece; they nest fifty deep at most, with the string itself. By DER a string is
 /// primitive (10.2), and so it is written.
 ///
-/// It is a field of structs, an optional one too, an item of lists, and stands under tags.
+/// It is an item of lists, and stands under tags. One of octets or of UTF-8 is a field of structs, an optional one too.
 #[derive(Drop)]
 #[derive_where(Debug, PartialEq, Eq)]
 pub struct Joined<'a, K> {

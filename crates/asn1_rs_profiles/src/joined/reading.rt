@@ -3,11 +3,11 @@ ghost use Rattle.std.specs.Prelude.{◌≡◌};
 ghost use Rattle.asn1_rs.specs.Any.{parts_of};
 ghost use Rattle.asn1_rs.specs.Checks.{is_primitive};
 ghost use Rattle.asn1_rs_profiles.specs.Joined.{JoinedGives, held_in, joined_reading, octets_in};
-ghost use Rattle.asn1_rs_profiles.specs.Joined.Lawful.{joined_equal, joined_exact, joined_type, joined_written};
+ghost use Rattle.asn1_rs_profiles.specs.Joined.Lawful.{joined_equal, joined_exact, joined_written};
 
 use crate::joined::pieces::joined_octets;
 use crate::joined::{Joined, JoinedKind, OctetKind};
-use asn1_rs::author::{ConvertsLeaf, DerElement, LawfulType, LeafType, WritesOctets};
+use asn1_rs::author::{ConvertsLeaf, DerElement, LeafType, WritesOctets};
 use asn1_rs::laws::{LawfulMember, assert_octets_valid};
 use asn1_rs::{Any, Error, Tagged};
 use std::alloc::Global;
@@ -72,8 +72,4 @@ impl<K: JoinedKind> WritesOctets for Joined<'_, K> {
 
 impl<K: JoinedKind> LawfulMember for Joined<'_, K> {
     ghost same = { joined_equal };
-}
-
-impl<K: JoinedKind> LawfulType for Joined<'_, K> {
-    ghost type_laws = { joined_type (K.Number.TAG).0 K.IsText K.small K.primitive };
 }
