@@ -1,3 +1,4 @@
 pub mod AboveZero
 pub mod Comparing
+pub mod Joining
 pub mod Kept

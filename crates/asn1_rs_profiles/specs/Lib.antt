@@ -1,3 +1,5 @@
+pub mod Joined
+pub mod Primitive
 pub mod Refined
 pub mod Signed
 pub mod Strict

@@ -2,11 +2,17 @@
 //!
 //! - [`Refined`] is a subtype (X.680 51): the values of a type that have a property, as a range or a size.
 //! - [`Signed`] keeps the octets of an element beside its value, since a signature is of octets.
+//! - [`Joined`] is a string that may come in pieces (X.690 8.7.3): its value is what they say.
+//! - [`Primitive`] is a string that may not.
 //! - [`read_strict`] takes only the one strict encoding of a value, and tells the first octet that differs from it.
 #![tactic(auto)]
 
 mod accuracy;
+mod content_info;
+mod fields;
 mod header_data;
+mod joined;
+mod primitive;
 mod refined;
 mod signed;
 mod strict;
@@ -16,7 +22,13 @@ mod usages;
 pub use accuracy::{
     Accuracy, AccuracyRow, Thousandths, accuracy_vec, read_accuracy, read_accuracy_by_ber,
 };
+pub use content_info::{
+    JoinedContent, JoinedContentInfo, JoinedContentRow, content_info_vec, read_content_info,
+    read_content_info_by_ber,
+};
 pub use header_data::{HeaderData, HeaderDataRow, header_data_vec, read_header_data};
+pub use joined::{Joined, JoinedKind, JoinedOctets, OctetKind};
+pub use primitive::{Primitive, PrimitiveOctets};
 pub use refined::{
     AtLeast, Both, Either, LawfulMeasured, LawfulNumber, LawfulProperty, Measured, Number, Octets,
     Positive, Property, Range, Refined, RefinedKind, RefinedReader, Size,
