@@ -13,8 +13,8 @@ use asn1_rs::{Error, TaggedExplicit};
 pub use body::{KdcReqBody, KdcReqBodyRow};
 pub use data::{EncryptedData, EncryptedDataRow, HostAddress, HostAddressRow, PaData, PaDataRow};
 pub use names::{PrincipalName, PrincipalNameRow};
-pub use request::{AsReq, KdcReq, KdcReqRow, read_request, request_vec};
-pub use ticket::{Ticket, TicketFields, TicketRow};
+pub use request::{AsReq, KdcReq, KdcReqRow, RequestType, read_request, request_vec};
+pub use ticket::{Ticket, TicketFields, TicketRow, Version5};
 
 /// A value under an explicit, context-specific tag.
 pub type Under<T, const TAG: u32> = TaggedExplicit<T, Error, TAG>;

@@ -1,9 +1,9 @@
 //! The request whole (RFC 4120, 5.4.1).
-ghost use Rattle.std.specs.Prelude.{MatchResult};
+ghost use Rattle.std.specs.Prelude.{◌≡◌, ◌⊎◌, MatchResult};
 ghost use Rattle.asn1_rs.specs.Prelude.{MadeOf, ReadsByDer, refl, seen, struct_of, WritesStrict};
 ghost use Rattle.asn1_rs_kerberos.specs.Requests.{IsAsReq, IsNoAsReq};
 
-use crate::{KdcReqBody, PaData, Under};
+use crate::{KdcReqBody, PaData, Under, Version5};
 use asn1_rs::author::{
     Fields, FieldsKind, HasKind, HasReader, LawfulStruct, ReadsFields, ReadsRow, Row, Row4,
     StructReader,
@@ -13,30 +13,34 @@ use asn1_rs::{
     ApplicationExplicit, DerParser, Error, ParseResult, SerializeResult, Tag, ToDer,
     assert_fields_valid, put_fields, read_der, read_fields, strict_vec,
 };
+use asn1_rs_profiles::{Either, Range, Refined};
 use std::alloc::Global;
 
 /// The first request of a client: `AS-REQ ::= [APPLICATION 10] KDC-REQ`.
 pub type AsReq<'a> = ApplicationExplicit<KdcReq<'a>, Error, 10>;
 
+/// What a request asks for: a first ticket (AS), or a further one (TGS).
+pub type RequestType = Refined<u8, Either<Range<10, 10>, Range<12, 12>>>;
+
 /// A request.
 ///
 ///     KDC-REQ ::= SEQUENCE {
-///         pvno      [1] INTEGER (5),
-///         msg-type  [2] INTEGER (10 -- AS -- | 12 -- TGS --),
+///         pvno      [1] INTEGER,
+///         msg-type  [2] INTEGER,
 ///         padata    [3] SEQUENCE OF PA-DATA OPTIONAL,
 ///         req-body  [4] KDC-REQ-BODY }
 #[derive(Debug, PartialEq, Eq, Drop)]
 pub struct KdcReq<'a> {
-    pub pvno: Under<u8, 1>,
-    pub msg_type: Under<u8, 2>,
+    pub pvno: Under<Version5, 1>,
+    pub msg_type: Under<RequestType, 2>,
     pub padata: Option<Under<Vec<PaData<'a>>, 3>>,
     pub req_body: Under<KdcReqBody<'a>, 4>,
 }
 
 /// Its fields.
 pub type KdcReqRow<'a> = Row4<
-    Under<u8, 1>,
-    Under<u8, 2>,
+    Under<Version5, 1>,
+    Under<RequestType, 2>,
     Option<Under<Vec<PaData<'a>>, 3>>,
     Under<KdcReqBody<'a>, 4>,
 >;
@@ -90,14 +94,18 @@ pub fn request_vec(alloc: Global, request: &AsReq<'_>) -> SerializeResult<Vec<u8
 }
 
 impl KdcReq<'_> {
-    /// Refuses another version, and then another type of messages.
-    pub fn assert_numbers(&self) -> Result<(), Error>
+    /// Each request in hand has the version and one of the types of RFC 4120.
+    pub fn has_numbers(&self)
+        ensures version { self.now.pvno.inner.value ≡ 5 }
+        ensures types { (self.now.msg_type.inner.value ≡ 10) ⊎
+            (self.now.msg_type.inner.value ≡ 12) }
+    {}
+
+    /// Refuses a request for a further ticket.
+    pub fn assert_as_req(&self) -> Result<(), Error>
         ensures { MatchResult result (λ _. IsAsReq self.now) (IsNoAsReq self.now) }
     {
-        if *self.pvno.as_inner() != 5 {
-            return Err(Tag::Integer.invalid_value("another version"));
-        }
-        if *self.msg_type.as_inner() != 10 {
+        if *self.msg_type.as_inner().get() != 10 {
             return Err(Tag::Integer.invalid_value("another message"));
         }
         Ok(())
