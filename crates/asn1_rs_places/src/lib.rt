@@ -7,7 +7,7 @@
 //! A type says into which parts they look, and has the make of the value. [`InStruct`] stands for a struct of fields,
 //! [`InChoice`] for a choice, and [`Items`] for a list. [`UnderTag`] stands for a value under an explicit tag, and
 //! [`InImplicit`] for one under an implicit tag. [`Held`] stands for an `Option` and a `Defaulted`, and [`ReadAs`] for
-//! a subtype. [`Whole`] stands where a value is not looked into.
+//! a subtype. [`Whole`] stands where a value is not looked into, and [`Named`] gives fields and arms names.
 //!
 //!     type ReminderLook = (Whole, (Held<UnderTag<Whole>>, (Held<Whole>, (Items<Whole>, ()))));
 //!
@@ -22,6 +22,7 @@ mod choices;
 mod contents;
 mod items;
 mod looks;
+mod names;
 mod refused;
 mod rows;
 mod structs;
@@ -32,7 +33,8 @@ pub use choices::{InChoice, LooksIntoArms};
 pub use contents::{InImplicit, UnderTag};
 pub use items::Items;
 pub use looks::{Held, LooksInto, LooksWithin, ReadAs, ReadsValue, Whole};
+pub use names::{Named, NamesParts, NamesSteps, PartNames};
 pub use refused::{Found, Refused, Step};
 pub use rows::LooksIntoRow;
 pub use structs::InStruct;
-pub use texts::Notation;
+pub use texts::{Notation, WithNames};

@@ -1,8 +1,11 @@
 //! Refusals as texts.
 
+use crate::looks::Whole;
+use crate::names::NamesSteps;
 use crate::refused::{Found, Refused, Step};
 use asn1_rs::{Class, Error, Tag};
 use std::fmt;
+use std::marker::PhantomData;
 
 /// A tag in the notation of X.680 8.2, as `[1]`, `[APPLICATION 10]`, `[PRIVATE 2]`. A universal one has the name of its
 /// type.
@@ -69,10 +72,26 @@ impl fmt::Display for Actual {
     }
 }
 
+/// Writes the last of these steps, by its name where `L` knows one.
+fn write_last<W: fmt::Write, L: NamesSteps>(
+    steps: &[Step],
+    f: &mut fmt::Formatter<W>,
+) -> fmt::Result {
+    match (L::name_of(steps), steps) {
+        (Some(name), _) => f.write_str(name),
+        (None, [.., last]) => write!(f, "{last}"),
+        (None, []) => Ok(()),
+    }
+}
+
 /// Writes the steps, each with a comma behind it.
-fn write_steps<W: fmt::Write>(steps: &[Step], f: &mut fmt::Formatter<W>) -> fmt::Result {
-    for step in steps {
-        write!(f, "{step}, ")?;
+fn write_steps<W: fmt::Write, L: NamesSteps>(
+    steps: &[Step],
+    f: &mut fmt::Formatter<W>,
+) -> fmt::Result {
+    for place in 0..steps.len() {
+        write_last::<W, L>(&steps[..place + 1], f)?;
+        f.write_str(", ")?;
     }
     Ok(())
 }
@@ -90,14 +109,22 @@ impl Refused {
     }
 
     /// Writes why all is refused, where the last step says so.
-    fn write_reason<W: fmt::Write>(&self, step: Step, f: &mut fmt::Formatter<W>) -> fmt::Result {
+    fn write_reason<W: fmt::Write, L: NamesSteps>(
+        &self,
+        step: Step,
+        f: &mut fmt::Formatter<W>,
+    ) -> fmt::Result {
         let octet = self.octet;
         let found = self.found;
+        write!(f, "at octet {octet}: ")?;
         match step {
-            Step::NoField => write!(f, "at octet {octet}: no field takes {found}"),
-            Step::Behind => write!(f, "at octet {octet}: trailing octets behind the value"),
-            Step::Tagged => write!(f, "at octet {octet}: the value under the tag is missing"),
-            _ => write!(f, "at octet {octet}: {step} is missing"),
+            Step::NoField => write!(f, "no field takes {found}"),
+            Step::Behind => f.write_str("trailing octets behind the value"),
+            Step::Tagged => f.write_str("the value under the tag is missing"),
+            _ => {
+                write_last::<W, L>(self.path(), f)?;
+                f.write_str(" is missing")
+            }
         }
     }
 
@@ -165,23 +192,51 @@ impl Refused {
     }
 }
 
+impl Refused {
+    /// Writes all, with the names that `L` knows.
+    fn write_named<W: fmt::Write, L: NamesSteps>(&self, f: &mut fmt::Formatter<W>) -> fmt::Result {
+        match self.path() {
+            [outer @ .., last] if self.is_reason(*last) => {
+                write_steps::<W, L>(outer, f)?;
+                self.write_reason::<W, L>(*last, f)
+            }
+            steps => {
+                write_steps::<W, L>(steps, f)?;
+                self.write_octet(f)?;
+                self.write_error(f)
+            }
+        }
+    }
+
+    /// The text with the names that the look `L` knows: `rooms, item 1, at octet 10: ..`.
+    pub fn with_names<L>(&self) -> WithNames<'_, L> {
+        WithNames {
+            refused: self,
+            look: PhantomData,
+        }
+    }
+}
+
 /// The path, the octet, and the error: `field 3, field 1, at octet 24: expected tag number 16, found [5]`.
 ///
 /// A field that is not there is told with the path to its struct: `field 3, at octet 24: field 2 is missing`. So are
 /// octets behind the last field: `field 3, at octet 24: no field takes [5]`. Tags have the notation of X.680 8.2.
 impl fmt::Display for Refused {
     fn fmt<W: fmt::Write>(&self, f: &mut fmt::Formatter<W>) -> fmt::Result {
-        match self.path() {
-            [outer @ .., last] if self.is_reason(*last) => {
-                write_steps(outer, f)?;
-                self.write_reason(*last, f)
-            }
-            steps => {
-                write_steps(steps, f)?;
-                self.write_octet(f)?;
-                self.write_error(f)
-            }
-        }
+        self.write_named::<W, Whole>(f)
+    }
+}
+
+/// A refusal that is told with the names that the look `L` knows.
+#[derive_where(Clone, Copy)]
+pub struct WithNames<'r, L> {
+    refused: &'r Refused,
+    look: PhantomData<L>,
+}
+
+impl<L: NamesSteps> fmt::Display for WithNames<'_, L> {
+    fn fmt<W: fmt::Write>(&self, f: &mut fmt::Formatter<W>) -> fmt::Result {
+        self.refused.write_named::<W, L>(f)
     }
 }
 

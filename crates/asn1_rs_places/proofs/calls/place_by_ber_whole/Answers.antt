@@ -4,7 +4,7 @@ use Rattle.asn1_headers.specs.Ber.{EndsWithin}
 use Rattle.asn1_rs.specs.Grammar.Item.{ber_words}
 use Rattle.asn1_rs.specs.Laws.Words.{ber_one}
 use Rattle.asn1_rs.specs.Laws.Whole.{whole_exact}
-use Rattle.asn1_rs_places.proofs.Whole.{refusal_told, exactly_told}
+use Rattle.asn1_rs_places.proofs.Alone.{refusal_told, exactly_told}
 use Rattle.asn1_rs_places.proofs.calls.place_by_ber_whole.Goals as goal
 
 pub returns-clause-refusal : goal.returns-clause-refusal

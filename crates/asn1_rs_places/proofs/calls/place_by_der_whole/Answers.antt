@@ -2,7 +2,7 @@ use Rattle.std.proofs.Common.{arith, rules}
 use Rattle.std.specs.Prelude.{length}
 use Rattle.x690.specs.Identifiers.{IsTruncatedIdentifier}
 use Rattle.asn1_rs.specs.Laws.Whole.{whole_exact}
-use Rattle.asn1_rs_places.proofs.Whole.{refusal_told, exactly_told}
+use Rattle.asn1_rs_places.proofs.Alone.{refusal_told, exactly_told}
 use Rattle.asn1_rs_places.proofs.calls.place_by_der_whole.Goals as goal
 
 pub returns-clause-refusal : goal.returns-clause-refusal
