@@ -92,6 +92,20 @@ where
     }
 }
 
+/// Where the value under a tag is refused, which is to be all of these contents octets.
+fn look_under_tag<'a, P, T, L>(alloc: Global, octets: &'a [u8], end: usize) -> Option<Refused>
+where
+    T: ReadsValue<'a, P> + Drop,
+    L: LooksInto<'a, P, T>,
+    ensures { MatchOption result (Takes T.value_gives octets.now [])
+        (IsInTag T.value_gives L.silent L.tells end octets.now) }
+{
+    match place_of_one::<P, T, L>(alloc, octets, end) {
+        Some(refused) => Some(refused.under(Step::Tagged)),
+        None => None,
+    }
+}
+
 /// Looks into the value under an explicit tag by `L`.
 #[derive_where(Debug)]
 pub struct UnderTag<L>(PhantomData<L>);
@@ -110,10 +124,7 @@ where
     ghost tells_within = { IsInTag T.value_gives L.silent L.tells };
 
     fn look_within(alloc: Global, octets: &'a [u8], end: usize) -> Option<Refused> {
-        match place_of_one::<P, T, L>(alloc, octets, end) {
-            Some(refused) => Some(refused.under(Step::Tagged)),
-            None => None,
-        }
+        look_under_tag::<P, T, L>(alloc, octets, end)
     }
 }
 
@@ -134,13 +145,13 @@ where
         (IsInTag T.value_gives L.silent L.tells) };
 
     fn look(alloc: Global, octets: &'a [u8], end: usize) -> Option<Refused> {
-        look_opened::<P, P, TaggedValue<T, Error, Explicit, CLASS, TAG>, UnderTag<L>>(
-            alloc,
-            octets,
-            end,
-            TAG,
-            Some(CLASS),
-        )
+        match opened::<P>(alloc, octets, end, TAG, Some(CLASS)) {
+            Some((any, its_end)) => match look_under_tag::<P, T, L>(alloc, any.content, its_end) {
+                Some(refused) => Some(refused),
+                None => None,
+            },
+            None => None,
+        }
     }
 }
 
