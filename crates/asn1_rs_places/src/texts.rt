@@ -1,4 +1,5 @@
 //! Refusals as texts.
+ghost use Rattle.std.specs.Prelude.{◌≡◌};
 
 use crate::looks::Whole;
 use crate::names::NamesSteps;
@@ -193,10 +194,10 @@ impl Refused {
 }
 
 impl Refused {
-    /// Writes all, with the names that `L` knows.
+    /// Writes all, with the names that `L` knows. Of sixteen steps the last one may stand before steps that were cut.
     fn write_named<W: fmt::Write, L: NamesSteps>(&self, f: &mut fmt::Formatter<W>) -> fmt::Result {
         match self.path() {
-            [outer @ .., last] if self.is_reason(*last) => {
+            [outer @ .., last] if outer.len() < 15 && self.is_reason(*last) => {
                 write_steps::<W, L>(outer, f)?;
                 self.write_reason::<W, L>(*last, f)
             }
@@ -209,7 +210,9 @@ impl Refused {
     }
 
     /// The text with the names that the look `L` knows: `rooms, item 1, at octet 10: ..`.
-    pub fn with_names<L>(&self) -> WithNames<'_, L> {
+    pub fn with_names<L>(&self) -> WithNames<'_, L>
+        ensures { result.refused.now ≡ self.now }
+    {
         WithNames {
             refused: self,
             look: PhantomData,
