@@ -1,21 +1,26 @@
 -- Where reading was refused: within which part of the value, and before which octet of the input. The error is told
 -- too.
-use Rattle.std.specs.Prelude.{◌≡◌, ◌⊎◌, ◌+◌, ◌-◌, ◌^◌, ℕ, zero, suc, List, [], ◌∷◌, length, take, true, min}
-use Rattle.std.specs.Prelude.{Option, Some, None, Result, Ok, Err}
+use Rattle.std.specs.Prelude.{◌≡◌, ◌≢◌, ◌⊎◌, ◌+◌, ◌-◌, ◌^◌, ℕ, zero, suc, List, [], ◌∷◌, length, take, true, min}
+use Rattle.std.specs.Prelude.{IsTrue, Option, Some, None, Result, Ok, Err}
 use Rattle.asn1_rs.specs.Prelude.{class_number, Error}
 use Rattle.asn1_headers.specs.Header.{class_of, is_constructed_of, tag_of, length_of}
 use Rattle.asn1_headers.specs.Header.Reading.{HeaderGives, ber_refusal}
-use Rattle.asn1_headers.specs.declared.class.Class.{Class}
+use Rattle.asn1_headers.specs.contracts.error.ErrorPartialEq.TheImpl as equal_errors
+use Rattle.asn1_headers.specs.declared.error.DerConstraint.TheVariants as constraints
 use Rattle.asn1_headers.specs.declared.error.Err.{Err as Refusal}
+use Rattle.asn1_headers.specs.declared.error.Error.TheVariants as errors
 use Rattle.asn1_headers.specs.declared.header.Header.{Header}
 use Rattle.asn1_headers.specs.declared.length.Length.{Length}
 use Rattle.asn1_headers.specs.declared.length.Length.TheVariants.{Definite, Indefinite}
 use Rattle.asn1_headers.specs.declared.tag.Tag.{Tag}
 use Rattle.asn1_rs.specs.FieldReader.{BecomesError}
 use Rattle.asn1_rs.specs.declared.asn1_types.any.Any.{Any}
+use Rattle.asn1_rs_places.specs.declared.refused.Found.{Found}
+use Rattle.asn1_rs_places.specs.declared.refused.Found.TheVariants as what
 use Rattle.asn1_rs_places.specs.declared.refused.Refused.{Refused}
 use Rattle.asn1_rs_places.specs.declared.refused.Step.{Step}
-use Rattle.asn1_rs_places.specs.declared.refused.Step.TheVariants.{Field, FieldsFrom, Item}
+use Rattle.asn1_rs_places.specs.declared.refused.Step.TheVariants.{Field, FieldsFrom, NoField, Item, Tagged, Arm}
+use Rattle.asn1_rs_places.specs.declared.refused.Step.TheVariants.{Behind}
 use Rattle.x690.specs.Rules.{ber_rule}
 
 -- what a reader may answer to octets
@@ -30,19 +35,26 @@ Takes {T} reads octets rest = (x : T) × reads octets (Ok (rest, x))
 abbrev pub Refuses : {T : Type 0} → Reads T → List ℕ → Type 0
 Refuses reads octets = (r : Refusal Error) × reads octets (Err r)
 
--- The class and the tag number of the header by BER that begins the octets, or none where none does.
-abbrev pub IsFound : List ℕ → Option (Class × Tag) → Type 0
-IsFound octets (Some x) = (header : Header) × (rest : List ℕ) ×
-    HeaderGives ber_rule ber_refusal octets (Ok (rest, header)) × (x.0 ≡ class_of header) × (x.1 ≡ tag_of header)
-IsFound octets None = (r : Refusal Error) × HeaderGives ber_rule ber_refusal octets (Err r)
+-- What begins the octets: nothing, a header by BER, or octets that begin with none.
+abbrev pub IsFound : List ℕ → Found → Type 0
+IsFound octets what.Nothing = octets ≡ []
+IsFound octets what.Octets =
+    (octets ≢ []) × ((r : Refusal Error) × HeaderGives ber_rule ber_refusal octets (Err r))
+IsFound octets (what.Header class tag) = (header : Header) × (rest : List ℕ) ×
+    HeaderGives ber_rule ber_refusal octets (Ok (rest, header)) × (class ≡ class_of header) × (tag ≡ tag_of header)
 
 -- The place is the front of these octets, which end so many octets behind the begin of the input.
 abbrev pub IsFront : ℕ → List ℕ → Refused → Type 0
 IsFront end octets told = (told.octet ≡ end - length octets) × IsFound octets told.found
 
--- This refusal of the octets is told, and of no part of the value.
-abbrev pub IsOfWhole : Refusal Error → ℕ → List ℕ → Refused → Type 0
-IsOfWhole r end octets told = (told.steps.items ≡ []) × IsFront end octets told × BecomesError r told.error
+-- both are told of one place
+abbrev pub HasPlaceOf : Refused → Refused → Type 0
+HasPlaceOf inner told =
+    (told.steps.items ≡ inner.steps.items) × (told.octet ≡ inner.octet) × (told.found ≡ inner.found)
+
+-- both errors are the same, as `==` tells it
+abbrev pub AreEqual : Error → Error → Type 0
+AreEqual e f = IsTrue (equal_errors.ghosts.eq e f)
 
 -- What is told of a part, as of the value. The step to the part stands before the steps within the part. The first
 -- fifteen of these are kept.
@@ -50,23 +62,47 @@ abbrev pub IsUnder : Step → Refused → Refused → Type 0
 IsUnder step inner told = (told.steps.items ≡ step ∷ take 15 inner.steps.items) × (told.octet ≡ inner.octet) ×
     (told.found ≡ inner.found) × (told.error ≡ inner.error)
 
--- A value is refused so. What is told is what looking into the value tells. Where looking tells nothing, this refusal
--- is told.
-abbrev pub IsToldWith : Refusal Error → (List ℕ → Type 0) → (ℕ → List ℕ → Refused → Type 0) → ℕ → List ℕ → Refused →
-    Type 0
-IsToldWith r silent tells end octets told = tells end octets told ⊎ (silent octets × IsOfWhole r end octets told)
+-- Looking into the value tells nothing, or another error than this.
+abbrev pub TellsNotOf : Error → (List ℕ → Type 0) → (ℕ → List ℕ → Refused → Type 0) → ℕ → List ℕ → Type 0
+TellsNotOf e silent tells end octets =
+    silent octets ⊎ ((inner : Refused) × tells end octets inner × (AreEqual inner.error e → ⊥))
 
--- A reader refuses the value, and that is told.
+-- A value is refused with this error. The place is the one that looking into the value tells of this error. Where it
+-- tells none, the place is the front of the value, and of no part.
+abbrev pub IsToldWith : Error → (List ℕ → Type 0) → (ℕ → List ℕ → Refused → Type 0) → ℕ → List ℕ → Refused → Type 0
+IsToldWith e silent tells end octets told =
+    ((inner : Refused) × tells end octets inner × AreEqual inner.error e × HasPlaceOf inner told) ⊎
+    (TellsNotOf e silent tells end octets × (told.steps.items ≡ []) × IsFront end octets told)
+
+-- A reader refuses the value, and its own refusal is told.
 abbrev pub IsToldOf : {T : Type 0} → Reads T → (List ℕ → Type 0) → (ℕ → List ℕ → Refused → Type 0) → ℕ → List ℕ →
     Refused → Type 0
 IsToldOf reads silent tells end octets told =
-    (r : Refusal Error) × reads octets (Err r) × IsToldWith r silent tells end octets told
+    (r : Refusal Error) × reads octets (Err r) × BecomesError r told.error ×
+    IsToldWith told.error silent tells end octets told
 
 -- What is told of a part is told under the step to it.
 abbrev pub IsToldUnder : {T : Type 0} → Step → Reads T → (List ℕ → Type 0) → (ℕ → List ℕ → Refused → Type 0) → ℕ →
     List ℕ → Refused → Type 0
 IsToldUnder step reads silent tells end octets told =
     (inner : Refused) × IsToldOf reads silent tells end octets inner × IsUnder step inner told
+
+-- A value that is to stand alone is taken, and these octets behind it are told.
+abbrev pub IsToldBehind : {T : Type 0} → Reads T → ℕ → List ℕ → Refused → Type 0
+IsToldBehind reads end octets told = (rest : List ℕ) × Takes reads octets rest × (rest ≢ []) ×
+    (told.steps.items ≡ Behind ∷ []) × IsFront end rest told ×
+    (told.error ≡ errors.DerConstraintFailed constraints.TrailingOctets)
+
+-- A value that is to stand alone is refused, or octets stand behind it.
+abbrev pub IsToldOfOne : {T : Type 0} → Reads T → (List ℕ → Type 0) → (ℕ → List ℕ → Refused → Type 0) → ℕ → List ℕ →
+    Refused → Type 0
+IsToldOfOne reads silent tells end octets told =
+    IsToldOf reads silent tells end octets told ⊎ IsToldBehind reads end octets told
+
+-- A place is told of each refusal, with its error, and of nothing else.
+abbrev pub TellsRefusal : {T : Type 0} → (List ℕ → Result T Error → Type 0) → List ℕ → Option Refused → Type 0
+TellsRefusal {T} answers octets None = (x : T) × answers octets (Ok x)
+TellsRefusal answers octets (Some told) = answers octets (Err told.error)
 
 -- Rows of fields.
 
@@ -83,9 +119,9 @@ abbrev pub IsRow : {S : Type 0} → (List ℕ → Result S Error → Type 0) →
 IsRow gives step end octets told =
     (told.steps.items ≡ step ∷ []) × IsFront end octets told × gives octets (Err told.error)
 
--- Octets are left behind the last field, and that is told as the place behind it.
+-- Octets are left behind the last field, which no field takes.
 abbrev pub IsBehindLast : (List ℕ → Result (Unit {0}) Error → Type 0) → ℕ → ℕ → List ℕ → Refused → Type 0
-IsBehindLast gives place = IsRow gives (Field place)
+IsBehindLast gives place = IsRow gives NoField
 
 -- The fields from this place on are refused, and it is not told which of them.
 abbrev pub IsInRest : {S : Type 0} → (List ℕ → Result S Error → Type 0) → ℕ → ℕ → List ℕ → Refused → Type 0
@@ -139,6 +175,12 @@ abbrev pub AreTaken : Reads Any → ℕ → Option ℕ → (List ℕ → Type 0)
 AreTaken elements number class takes octets = IsClosed elements number class octets ⊎
     ((any : Any) × (rest : List ℕ) × IsOpened elements number class octets any rest × takes any.content.now)
 
+-- the value under a tag, which is to stand alone, is refused, or octets stand behind it
+abbrev pub IsInTag : {T : Type 0} → Reads T → (List ℕ → Type 0) → (ℕ → List ℕ → Refused → Type 0) → ℕ → List ℕ →
+    Refused → Type 0
+IsInTag reads silent tells end octets told =
+    (inner : Refused) × IsToldOfOne reads silent tells end octets inner × IsUnder Tagged inner told
+
 -- a value is taken, whatever follows it
 abbrev pub TakesOne : {T : Type 0} → Reads T → List ℕ → Type 0
 TakesOne reads octets = (rest : List ℕ) × Takes reads octets rest
@@ -167,3 +209,39 @@ TellsNothing end octets told = ⊥
 
 abbrev pub IsNotLookedInto : List ℕ → Type 0
 IsNotLookedInto octets = Unit {0}
+
+-- Arms of choices.
+
+-- the header has this class and this tag number
+abbrev pub IsOfArm : ℕ → Tag → Header → Type 0
+IsOfArm class tag header = (class_number (class_of header) ≡ class) × ((tag_of header).0 ≡ tag.0)
+
+-- nothing is told of the arm whose class and tag number the header has
+abbrev pub ArmIsTaken : {T : Type 0} → ℕ → Tag → Reads T → (Header → List ℕ → Type 0) → Header → List ℕ → Type 0
+ArmIsTaken class tag reads others header octets =
+    (IsOfArm class tag header × TakesOne reads octets) ⊎ ((IsOfArm class tag header → ⊥) × others header octets)
+
+-- The refusal is that of the arm whose class and tag number the header has.
+abbrev pub IsInArm : {T : Type 0} → ℕ → Tag → Reads T → (List ℕ → Type 0) → (ℕ → List ℕ → Refused → Type 0) →
+    (ℕ → Header → ℕ → List ℕ → Refused → Type 0) → ℕ → Header → ℕ → List ℕ → Refused → Type 0
+IsInArm class tag reads silent tells others place header end octets told =
+    (IsOfArm class tag header × IsToldUnder (Arm place) reads silent tells end octets told) ⊎
+    ((IsOfArm class tag header → ⊥) ×
+    ((next : ℕ) × (next ≡ next_place place) × others next header end octets told))
+
+-- The header of the element that begins the octets says which arm it is.
+abbrev pub IsInChoice : Reads Any → (Header → ℕ → List ℕ → Refused → Type 0) → ℕ → List ℕ → Refused → Type 0
+IsInChoice elements tells end octets told = (any : Any) × (rest : List ℕ) × elements octets (Ok (rest, any)) ×
+    tells any.header end octets told
+
+-- no element begins the octets, or nothing is told of its arm
+abbrev pub ChoiceIsTaken : Reads Any → (Header → List ℕ → Type 0) → List ℕ → Type 0
+ChoiceIsTaken elements silent octets = Refuses elements octets ⊎
+    ((any : Any) × (rest : List ℕ) × elements octets (Ok (rest, any)) × silent any.header octets)
+
+-- Where arms are not looked into, nothing is told.
+abbrev pub ArmsAreSilent : Header → List ℕ → Type 0
+ArmsAreSilent header octets = Unit {0}
+
+abbrev pub ArmsTellNothing : ℕ → Header → ℕ → List ℕ → Refused → Type 0
+ArmsTellNothing place header end octets told = ⊥

@@ -1,12 +1,11 @@
-//! Contents octets of constructed elements, and values under explicit tags.
-ghost use Rattle.std.specs.Prelude.{◌≡◌, ◌↔◌, ℕ, List, IsTrue, None, Some, MatchOption};
+//! Contents octets of constructed elements, and values under tags.
+ghost use Rattle.std.specs.Prelude.{◌≡◌, ◌↔◌, [], ℕ, List, IsTrue, None, Some, MatchOption};
 ghost use Rattle.asn1_rs_places.specs.Places.{closing, AreTaken, IsClosed, IsEnd, IsInContents, IsOfClass, IsOpened};
-ghost use Rattle.asn1_rs_places.specs.Places.{IsToldUnder, Opens, TakesOne};
-ghost use Rattle.asn1_rs_places.specs.declared.refused.Step.TheVariants.{Tagged};
+ghost use Rattle.asn1_rs_places.specs.Places.{IsInTag, Opens, Takes};
 
-use crate::looks::{LooksInto, ReadsValue, told};
+use crate::looks::{LooksInto, LooksWithin, ReadsValue, place_of_one};
 use crate::refused::{Refused, Step};
-use asn1_rs::{Any, Error, Explicit, Header, Length, TaggedValue};
+use asn1_rs::{Any, BerParser, Error, Explicit, Header, Implicit, Length, TaggedValue};
 use std::alloc::Global;
 use std::marker::PhantomData;
 
@@ -67,26 +66,67 @@ where
     }
 }
 
-/// Where the value under a tag is refused, which these contents octets begin with.
+/// Where a part of the contents octets is refused of the element that begins the octets, where that opens. The element
+/// is read by `P`, its parts by `Q`.
+pub(crate) fn look_opened<'a, P, Q, T, L>(
+    alloc: Global,
+    octets: &'a [u8],
+    end: usize,
+    number: u32,
+    class: Option<u8>,
+) -> Option<Refused>
+where
+    Any<'a>: ReadsValue<'a, P>,
+    L: LooksWithin<'a, Q, T>,
+    ensures { MatchOption result
+        (AreTaken ⟦<Any<'a> as ReadsValue<'a, P>>⟧.value_gives number class L.takes octets.now)
+        (IsInContents ⟦<Any<'a> as ReadsValue<'a, P>>⟧.value_gives number class L.tells_within end
+        octets.now) }
+{
+    match opened::<P>(alloc, octets, end, number, class) {
+        Some((any, its_end)) => match L::look_within(alloc, any.content, its_end) {
+            Some(refused) => Some(refused),
+            None => None,
+        },
+        None => None,
+    }
+}
+
+/// Where the value under a tag is refused, which is to be all of these contents octets.
 fn look_under_tag<'a, P, T, L>(alloc: Global, octets: &'a [u8], end: usize) -> Option<Refused>
 where
     T: ReadsValue<'a, P> + Drop,
     L: LooksInto<'a, P, T>,
-    ensures { MatchOption result (TakesOne T.value_gives octets.now)
-        (IsToldUnder Tagged T.value_gives L.silent L.tells end octets.now) }
+    ensures { MatchOption result (Takes T.value_gives octets.now [])
+        (IsInTag T.value_gives L.silent L.tells end octets.now) }
 {
-    match T::read_value(alloc, octets) {
-        Ok(_) => None,
-        Err(refusal) => {
-            let refused = told::<P, T, L>(alloc, octets, end, refusal);
-            Some(refused.under(Step::Tagged))
-        }
+    match place_of_one::<P, T, L>(alloc, octets, end) {
+        Some(refused) => Some(refused.under(Step::Tagged)),
+        None => None,
     }
 }
 
 /// Looks into the value under an explicit tag by `L`.
 #[derive_where(Debug)]
 pub struct UnderTag<L>(PhantomData<L>);
+
+impl<'a, P, T, L, const CLASS: u8, const TAG: u32> LooksWithin<
+    'a,
+    P,
+    TaggedValue<T, Error, Explicit, CLASS, TAG>,
+> for UnderTag<L>
+where
+    T: ReadsValue<'a, P> + Drop,
+    L: LooksInto<'a, P, T>,
+{
+    ghost takes = { λ octets. Takes T.value_gives octets [] };
+
+    ghost tells_within = { IsInTag T.value_gives L.silent L.tells };
+
+    fn look_within(alloc: Global, octets: &'a [u8], end: usize) -> Option<Refused> {
+        look_under_tag::<P, T, L>(alloc, octets, end)
+    }
+}
 
 impl<'a, P, T, L, const CLASS: u8, const TAG: u32> LooksInto<
     'a,
@@ -99,10 +139,10 @@ where
     L: LooksInto<'a, P, T>,
 {
     ghost silent = { AreTaken ⟦<Any<'a> as ReadsValue<'a, P>>⟧.value_gives TAG (Some CLASS)
-        (TakesOne T.value_gives) };
+        (λ octets. Takes T.value_gives octets []) };
 
     ghost tells = { IsInContents ⟦<Any<'a> as ReadsValue<'a, P>>⟧.value_gives TAG (Some CLASS)
-        (IsToldUnder Tagged T.value_gives L.silent L.tells) };
+        (IsInTag T.value_gives L.silent L.tells) };
 
     fn look(alloc: Global, octets: &'a [u8], end: usize) -> Option<Refused> {
         match opened::<P>(alloc, octets, end, TAG, Some(CLASS)) {
@@ -112,5 +152,29 @@ where
             },
             None => None,
         }
+    }
+}
+
+/// Looks by `L` into the contents octets of a value under an implicit tag. By both rules their parts are read by BER.
+#[derive_where(Debug)]
+pub struct InImplicit<L>(PhantomData<L>);
+
+impl<'a, P, T, L, const CLASS: u8, const TAG: u32> LooksInto<
+    'a,
+    P,
+    TaggedValue<T, Error, Implicit, CLASS, TAG>,
+> for InImplicit<L>
+where
+    Any<'a>: ReadsValue<'a, P>,
+    L: LooksWithin<'a, BerParser, T>,
+{
+    ghost silent = { AreTaken ⟦<Any<'a> as ReadsValue<'a, P>>⟧.value_gives TAG (Some CLASS)
+        L.takes };
+
+    ghost tells = { IsInContents ⟦<Any<'a> as ReadsValue<'a, P>>⟧.value_gives TAG (Some CLASS)
+        L.tells_within };
+
+    fn look(alloc: Global, octets: &'a [u8], end: usize) -> Option<Refused> {
+        look_opened::<P, BerParser, T, L>(alloc, octets, end, TAG, Some(CLASS))
     }
 }

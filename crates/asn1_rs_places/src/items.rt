@@ -2,8 +2,8 @@
 ghost use Rattle.std.specs.Prelude.{◌≡◌, MatchOption, None};
 ghost use Rattle.asn1_rs_places.specs.Places.{AreTaken, IsInContents, IsInItems, TakesAll};
 
-use crate::contents::opened;
-use crate::looks::{LooksInto, ReadsValue, told};
+use crate::contents::look_opened;
+use crate::looks::{LooksInto, LooksWithin, ReadsValue, told};
 use crate::refused::{Refused, Step};
 use asn1_rs::{Any, SequenceOf, SetOf};
 use std::alloc::Global;
@@ -33,35 +33,23 @@ where
     None
 }
 
-/// Where an item of a list is refused, whose element has this tag number.
-fn look_in_list<'a, P, T, L>(
-    alloc: Global,
-    octets: &'a [u8],
-    end: usize,
-    number: u32,
-) -> Option<Refused>
-where
-    T: ReadsValue<'a, P> + Drop,
-    Any<'a>: ReadsValue<'a, P>,
-    L: LooksInto<'a, P, T>,
-    ensures { MatchOption result
-        (AreTaken ⟦<Any<'a> as ReadsValue<'a, P>>⟧.value_gives number None (TakesAll T.value_gives)
-        octets.now)
-        (IsInContents ⟦<Any<'a> as ReadsValue<'a, P>>⟧.value_gives number None
-        (IsInItems T.value_gives L.silent L.tells) end octets.now) }
-{
-    match opened::<P>(alloc, octets, end, number, None) {
-        Some((any, its_end)) => match look_in_items::<P, T, L>(alloc, any.content, its_end) {
-            Some(refused) => Some(refused),
-            None => None,
-        },
-        None => None,
-    }
-}
-
 /// Looks into the items of a list by `L`.
 #[derive_where(Debug)]
 pub struct Items<L>(PhantomData<L>);
+
+impl<'a, P, T, L> LooksWithin<'a, P, Vec<T>> for Items<L>
+where
+    T: ReadsValue<'a, P> + Drop,
+    L: LooksInto<'a, P, T>,
+{
+    ghost takes = { TakesAll T.value_gives };
+
+    ghost tells_within = { IsInItems T.value_gives L.silent L.tells };
+
+    fn look_within(alloc: Global, octets: &'a [u8], end: usize) -> Option<Refused> {
+        look_in_items::<P, T, L>(alloc, octets, end)
+    }
+}
 
 impl<'a, P, T, L> LooksInto<'a, P, Vec<T>> for Items<L>
 where
@@ -76,7 +64,21 @@ where
         (IsInItems T.value_gives L.silent L.tells) };
 
     fn look(alloc: Global, octets: &'a [u8], end: usize) -> Option<Refused> {
-        look_in_list::<P, T, L>(alloc, octets, end, 16)
+        look_opened::<P, P, Vec<T>, Items<L>>(alloc, octets, end, 16, None)
+    }
+}
+
+impl<'a, P, T, L> LooksWithin<'a, P, SequenceOf<T>> for Items<L>
+where
+    T: ReadsValue<'a, P> + Drop,
+    L: LooksInto<'a, P, T>,
+{
+    ghost takes = { TakesAll T.value_gives };
+
+    ghost tells_within = { IsInItems T.value_gives L.silent L.tells };
+
+    fn look_within(alloc: Global, octets: &'a [u8], end: usize) -> Option<Refused> {
+        look_in_items::<P, T, L>(alloc, octets, end)
     }
 }
 
@@ -93,7 +95,21 @@ where
         (IsInItems T.value_gives L.silent L.tells) };
 
     fn look(alloc: Global, octets: &'a [u8], end: usize) -> Option<Refused> {
-        look_in_list::<P, T, L>(alloc, octets, end, 16)
+        look_opened::<P, P, SequenceOf<T>, Items<L>>(alloc, octets, end, 16, None)
+    }
+}
+
+impl<'a, P, T, L> LooksWithin<'a, P, SetOf<T>> for Items<L>
+where
+    T: ReadsValue<'a, P> + Drop,
+    L: LooksInto<'a, P, T>,
+{
+    ghost takes = { TakesAll T.value_gives };
+
+    ghost tells_within = { IsInItems T.value_gives L.silent L.tells };
+
+    fn look_within(alloc: Global, octets: &'a [u8], end: usize) -> Option<Refused> {
+        look_in_items::<P, T, L>(alloc, octets, end)
     }
 }
 
@@ -110,6 +126,6 @@ where
         (IsInItems T.value_gives L.silent L.tells) };
 
     fn look(alloc: Global, octets: &'a [u8], end: usize) -> Option<Refused> {
-        look_in_list::<P, T, L>(alloc, octets, end, 17)
+        look_opened::<P, P, SetOf<T>, Items<L>>(alloc, octets, end, 17, None)
     }
 }

@@ -1,9 +1,10 @@
 //! How a refusal is told of a part of a value: one way for each make of types.
-ghost use Rattle.std.specs.Prelude.{◌≡◌, ℕ, List, Result, MatchOption};
+ghost use Rattle.std.specs.Prelude.{◌≡◌, [], ℕ, List, Result, MatchOption};
 ghost use Rattle.asn1_rs.specs.Prelude.{Error, seen};
+ghost use Rattle.asn1_rs.specs.FieldReader.{BecomesError};
 ghost use Rattle.asn1_headers.specs.declared.error.Err.{Err as Refusal};
 ghost use Rattle.asn1_rs_places.specs.declared.refused.Refused.{Refused};
-ghost use Rattle.asn1_rs_places.specs.Places.{IsNotLookedInto, IsToldWith, TellsNothing};
+ghost use Rattle.asn1_rs_places.specs.Places.{IsNotLookedInto, IsToldOfOne, IsToldWith, Takes, TellsNothing};
 
 use crate::refused::Refused;
 use asn1_rs::{BerParser, Defaulted, DerParser, Err, Error, FromBer, FromDer, ParseResult};
@@ -50,7 +51,23 @@ pub trait LooksInto<'a, P, T> {
         ensures { MatchOption result (silent octets.now) (tells end octets.now) };
 }
 
-/// What is told of octets that are refused so. It is what `L` tells of a part, or else the refusal of the whole.
+/// A way to look into the contents octets of a `T`, whose parts the parser `P` reads.
+///
+/// So it serves under an implicit tag too, which stands in the place of the tag of the `T` (X.690 8.14.3).
+pub trait LooksWithin<'a, P, T> {
+    /// Nothing is told of these contents octets.
+    ghost takes: { List ℕ → Type 0 };
+
+    /// This may be told of these contents octets, which end so many octets behind the begin of the input.
+    ghost tells_within: { ℕ → List ℕ → Refused → Type 0 };
+
+    /// Where a part of these contents octets is refused, which end `end` octets behind the begin of the input.
+    fn look_within(alloc: Global, octets: &'a [u8], end: usize) -> Option<Refused>
+        ensures { MatchOption result (takes octets.now) (tells_within end octets.now) };
+}
+
+/// What is told of octets that are refused so. The place is that of the part of which `L` tells the same refusal. Where
+/// it tells none, or another one, as when out of memory, it is the front of the octets.
 pub(crate) fn told<'a, P, T, L>(
     alloc: Global,
     octets: &'a [u8],
@@ -59,11 +76,39 @@ pub(crate) fn told<'a, P, T, L>(
 ) -> Refused
 where
     L: LooksInto<'a, P, T>,
-    ensures { IsToldWith refusal L.silent L.tells end octets.now result }
+    ensures own { BecomesError refusal result.error }
+    ensures place { IsToldWith result.error L.silent L.tells end octets.now result }
 {
+    let error = Error::from(refusal);
     match L::look(alloc, octets, end) {
-        Some(refused) => refused,
-        None => Refused::at_front(octets, end, Error::from(refusal)),
+        Some(refused) => {
+            if refused.error == error {
+                return refused.with_error(error);
+            }
+            Refused::at_front(octets, end, error)
+        }
+        None => Refused::at_front(octets, end, error),
+    }
+}
+
+/// Where octets are refused that are to be one value, with nothing behind it.
+pub(crate) fn place_of_one<'a, P, T, L>(
+    alloc: Global,
+    octets: &'a [u8],
+    end: usize,
+) -> Option<Refused>
+where
+    T: ReadsValue<'a, P> + Drop,
+    L: LooksInto<'a, P, T>,
+    ensures { MatchOption result (Takes T.value_gives octets.now [])
+        (IsToldOfOne T.value_gives L.silent L.tells end octets.now) }
+{
+    match T::read_value(alloc, octets) {
+        Ok((rest, _)) => match rest {
+            [] => None,
+            _ => Some(Refused::behind(rest, end)),
+        },
+        Err(refusal) => Some(told::<P, T, L>(alloc, octets, end, refusal)),
     }
 }
 
@@ -102,5 +147,32 @@ impl<'a, P, T, D, L: LooksInto<'a, P, T>> LooksInto<'a, P, Defaulted<T, D>> for 
 
     fn look(alloc: Global, octets: &'a [u8], end: usize) -> Option<Refused> {
         L::look(alloc, octets, end)
+    }
+}
+
+/// Looks by `L` into a value that is read as a `T`, as a subtype of `T` is, or what holds one `T` whole.
+#[derive_where(Debug)]
+pub struct ReadAs<T, L> {
+    value: PhantomData<T>,
+    look: PhantomData<L>,
+}
+
+impl<'a, P, S, T, L: LooksInto<'a, P, T>> LooksInto<'a, P, S> for ReadAs<T, L> {
+    ghost silent = { L.silent };
+
+    ghost tells = { L.tells };
+
+    fn look(alloc: Global, octets: &'a [u8], end: usize) -> Option<Refused> {
+        L::look(alloc, octets, end)
+    }
+}
+
+impl<'a, P, S, T, L: LooksWithin<'a, P, T>> LooksWithin<'a, P, S> for ReadAs<T, L> {
+    ghost takes = { L.takes };
+
+    ghost tells_within = { L.tells_within };
+
+    fn look_within(alloc: Global, octets: &'a [u8], end: usize) -> Option<Refused> {
+        L::look_within(alloc, octets, end)
     }
 }

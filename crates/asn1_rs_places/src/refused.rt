@@ -1,10 +1,13 @@
 //! A refusal with its place.
-ghost use Rattle.std.specs.Prelude.{◌≡◌, [], ◌∷◌, ◌-◌, length};
-ghost use Rattle.asn1_rs_places.specs.Places.{IsFound, IsFront, IsUnder};
+ghost use Rattle.std.specs.Prelude.{◌≡◌, ◌≢◌, [], ◌∷◌, ◌-◌, length};
+ghost use Rattle.asn1_headers.specs.declared.error.DerConstraint.TheVariants as constraints;
+ghost use Rattle.asn1_headers.specs.declared.error.Error.TheVariants as errors;
+ghost use Rattle.asn1_rs_places.specs.Places.{HasPlaceOf, IsFound, IsFront, IsUnder};
+ghost use Rattle.asn1_rs_places.specs.declared.refused.Step.TheVariants.{Behind};
 
 use arrayvec::ArrayVec;
 use asn1_headers::header::reading::header_by_ber;
-use asn1_rs::{Class, Error, Tag};
+use asn1_rs::{Class, DerConstraint, Error, Tag};
 use std::fmt;
 
 /// A step from a value to a part of it.
@@ -14,10 +17,16 @@ pub enum Step {
     Field(usize),
     /// To the fields of a struct from this place on, as one.
     FieldsFrom(usize),
+    /// To octets behind the last field of a struct. No field takes them.
+    NoField,
     /// To an item of a list, counted from 0.
     Item(usize),
     /// To the value under an explicit tag.
     Tagged,
+    /// To the arm of a choice, by its place among the arms, counted from 0.
+    Arm(usize),
+    /// To octets behind a value that is to stand alone, as a message, or a value under an explicit tag.
+    Behind,
 }
 
 /// Step 0.
@@ -27,25 +36,39 @@ impl Default for Step {
     }
 }
 
+/// What stands at a place.
+#[derive(Debug, Clone, Copy, PartialEq, Eq)]
+pub enum Found {
+    /// No octet.
+    Nothing,
+    /// Octets that begin with no header by BER.
+    Octets,
+    /// A header by BER, with this class and this tag number.
+    Header(Class, Tag),
+}
+
 /// Where reading was refused, and with what.
 #[derive(Debug, PartialEq, Eq, Drop)]
 pub struct Refused {
     steps: ArrayVec<Step, 16>,
     /// How many octets of the input stand before what was refused.
     pub octet: usize,
-    /// The class and the tag number that were found there, if identifier and length octets were.
-    pub found: Option<(Class, Tag)>,
+    /// What was found there.
+    pub found: Found,
     /// The refusal.
     pub error: Error,
 }
 
-/// The class and the tag number of the header at the front, by BER.
-fn identifier_at(octets: &[u8]) -> Option<(Class, Tag)>
+/// What stands at the front of the octets.
+fn found_at(octets: &[u8]) -> Found
     ensures { IsFound octets.now result }
 {
-    match header_by_ber(octets) {
-        Ok((_, header)) => Some((header.class(), header.tag())),
-        Err(_) => None,
+    match octets {
+        [] => Found::Nothing,
+        _ => match header_by_ber(octets) {
+            Ok((_, header)) => Found::Header(header.class(), header.tag()),
+            Err(_) => Found::Octets,
+        },
     }
 }
 
@@ -59,9 +82,19 @@ impl Refused {
         Refused {
             steps: ArrayVec::new(),
             octet: end.saturating_sub(octets.len()),
-            found: identifier_at(octets),
+            found: found_at(octets),
             error,
         }
+    }
+
+    /// The refusal of these octets, since they stand behind a value that is to stand alone.
+    pub(crate) fn behind(octets: &[u8], end: usize) -> Refused
+        ensures steps { result.steps.items ≡ Behind ∷ [] }
+        ensures front { IsFront end octets.now result }
+        ensures error { result.error ≡ errors.DerConstraintFailed constraints.TrailingOctets }
+    {
+        let error = Error::DerConstraintFailed(DerConstraint::TrailingOctets);
+        Refused::at_front(octets, end, error).under(Step::Behind)
     }
 
     /// The same refusal, told of the value that holds the part to which this step leads.
@@ -79,6 +112,19 @@ impl Refused {
         }
     }
 
+    /// This error, at the same place.
+    pub(crate) fn with_error(self, error: Error) -> Refused
+        ensures place { HasPlaceOf self result }
+        ensures error { result.error ≡ error }
+    {
+        Refused {
+            steps: self.steps,
+            octet: self.octet,
+            found: self.found,
+            error,
+        }
+    }
+
     /// The steps from the value that was read to the part that was refused, the outermost first. Of more than 16 steps
     /// the outermost 16 are told.
     pub fn path(&self) -> &[Step]
@@ -87,106 +133,3 @@ impl Refused {
         self.steps.as_slice()
     }
 }
-
-/// An identifier in the notation of X.680 8.2: `[1]`, `[APPLICATION 10]`, `[PRIVATE 2]`, `[UNIVERSAL 16]`.
-#[derive(Drop)]
-struct Notation(Class, Tag);
-
-impl fmt::Display for Notation {
-    fn fmt<W: fmt::Write>(&self, f: &mut fmt::Formatter<W>) -> fmt::Result {
-        let number = self.1.0;
-        match self.0 {
-            Class::Universal => write!(f, "[UNIVERSAL {number}]"),
-            Class::Application => write!(f, "[APPLICATION {number}]"),
-            Class::ContextSpecific => write!(f, "[{number}]"),
-            Class::Private => write!(f, "[PRIVATE {number}]"),
-        }
-    }
-}
-
-/// What was found at a place, where it has this tag number.
-#[derive(Drop)]
-struct Actual<'r> {
-    tag: Tag,
-    found: &'r Option<(Class, Tag)>,
-}
-
-/// A number of another class is told with its class. A number that is not the one that was found is told by itself
-/// alone.
-impl fmt::Display for Actual<'_> {
-    fn fmt<W: fmt::Write>(&self, f: &mut fmt::Formatter<W>) -> fmt::Result {
-        let tag = self.tag;
-        let number = tag.0;
-        match *self.found {
-            Some((class, found)) if found == tag && class == Class::Universal => {
-                write!(f, "{number} ({tag})")
-            }
-            Some((class, found)) if found == tag => {
-                let notation = Notation(class, tag);
-                write!(f, "{notation}")
-            }
-            _ => write!(f, "{number}"),
-        }
-    }
-}
-
-impl fmt::Display for Step {
-    fn fmt<W: fmt::Write>(&self, f: &mut fmt::Formatter<W>) -> fmt::Result {
-        match *self {
-            Step::Field(place) => write!(f, "field {place}"),
-            Step::FieldsFrom(place) => write!(f, "field {place} or one behind it"),
-            Step::Item(place) => write!(f, "item {place}"),
-            Step::Tagged => write!(f, "under its tag"),
-        }
-    }
-}
-
-impl Refused {
-    /// Writes the octet, and the identifier that was found there where its class is not universal.
-    fn write_octet<W: fmt::Write>(&self, f: &mut fmt::Formatter<W>) -> fmt::Result {
-        let octet = self.octet;
-        match self.found {
-            Some((class, tag)) if class != Class::Universal => {
-                let notation = Notation(class, tag);
-                write!(f, "at octet {octet} {notation}")
-            }
-            _ => write!(f, "at octet {octet}"),
-        }
-    }
-
-    /// Writes the error. A tag number that was expected has no name, since its class is not known.
-    fn write_error<W: fmt::Write>(&self, f: &mut fmt::Formatter<W>) -> fmt::Result {
-        match &self.error {
-            Error::UnexpectedTag { expected, actual } => {
-                let actual = Actual {
-                    tag: *actual,
-                    found: &self.found,
-                };
-                match expected {
-                    Some(Tag(number)) => {
-                        write!(f, "expected tag number {number}, found {actual}")
-                    }
-                    None => write!(f, "unexpected tag number {actual}"),
-                }
-            }
-            error => write!(f, "{error}"),
-        }
-    }
-}
-
-/// The path, the octet, and the error: `field 3, field 1, at octet 24 [5]: expected tag number 16, found [5]`.
-///
-/// An identifier of another class than universal is told in the notation of X.680 8.2. The name of the universal type
-/// that has its number never stands for it.
-impl fmt::Display for Refused {
-    fn fmt<W: fmt::Write>(&self, f: &mut fmt::Formatter<W>) -> fmt::Result {
-        for step in self.path() {
-            write!(f, "{step}, ")?;
-        }
-        self.write_octet(f)?;
-        f.write_str(": ")?;
-        self.write_error(f)
-    }
-}
-
-impl std::error::Error for Refused {}

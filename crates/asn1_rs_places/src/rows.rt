@@ -26,10 +26,10 @@ pub trait LooksIntoRow<'a, P: ReadsBy, R: ReadsRow<'a, P>> {
 impl<'a, P: ReadsBy> LooksIntoRow<'a, P, ()> for () {
     ghost tells_in_row = { IsBehindLast ⟦<() as ReadsRow<'a, P>>⟧.row_gives };
 
-    fn look_in_row(alloc: Global, octets: &'a [u8], end: usize, place: usize) -> Option<Refused> {
+    fn look_in_row(alloc: Global, octets: &'a [u8], end: usize, _place: usize) -> Option<Refused> {
         match <() as ReadsRow<'a, P>>::read_row(alloc, octets) {
             Ok(()) => None,
-            Err(e) => Some(Refused::at_front(octets, end, e).under(Step::Field(place))),
+            Err(e) => Some(Refused::at_front(octets, end, e).under(Step::NoField)),
         }
     }
 }

@@ -1,0 +1,137 @@
+//! Choices: in which of their arms the refusal came.
+ghost use Rattle.std.specs.Prelude.{◌≡◌, ◌↔◌, ℕ, List, IsTrue, MatchOption};
+ghost use Rattle.asn1_headers.specs.declared.header.Header.{Header};
+ghost use Rattle.asn1_rs_places.specs.declared.refused.Refused.{Refused};
+ghost use Rattle.asn1_rs_places.specs.Places.{ArmIsTaken, ArmsAreSilent, ArmsTellNothing, ChoiceIsTaken, IsInArm};
+ghost use Rattle.asn1_rs_places.specs.Places.{IsInChoice, IsOfArm};
+
+use crate::looks::{LooksInto, ReadsValue, Whole, told};
+use crate::refused::{Refused, Step};
+use asn1_rs::author::{Never, Or};
+use asn1_rs::{Any, Header, Tag, Tagged};
+use std::alloc::Global;
+use std::marker::PhantomData;
+
+/// Whether a header has the class and the tag number of an arm.
+fn is_of_arm(class: u8, tag: Tag, header: &Header<'_>) -> bool
+    ensures { IsTrue result ↔ IsOfArm class tag header.now }
+{
+    header.class().number() == class && header.tag().0 == tag.0
+}
+
+/// A way to look into the arms `A` of a choice that is read by the parser `P`.
+///
+/// The look is pairs of a way to look into an arm and one for the arms behind that one. `()` is at the end.
+pub trait LooksIntoArms<'a, P, A> {
+    /// Nothing is told of these octets, which begin with this header.
+    ghost silent_of_arms: { Header → List ℕ → Type 0 };
+
+    /// This may be told of these octets, which begin with this header. The first arm has this place, and the octets end
+    /// so many octets behind the begin of the input.
+    ghost tells_of_arms: { ℕ → Header → ℕ → List ℕ → Refused → Type 0 };
+
+    /// Where the arm is refused whose class and tag number the header has. The first arm has this place, and the octets
+    /// end `end` octets behind the begin of the input.
+    fn look_in_arms(
+        alloc: Global,
+        header: &Header<'_>,
+        octets: &'a [u8],
+        end: usize,
+        place: usize,
+    ) -> Option<Refused>
+        ensures { MatchOption result (silent_of_arms header.now octets.now)
+            (tells_of_arms place header.now end octets.now) };
+}
+
+impl<'a, P> LooksIntoArms<'a, P, Never> for () {
+    ghost silent_of_arms = { ArmsAreSilent };
+
+    ghost tells_of_arms = { ArmsTellNothing };
+
+    fn look_in_arms(
+        _alloc: Global,
+        _header: &Header<'_>,
+        _octets: &'a [u8],
+        _end: usize,
+        _place: usize,
+    ) -> Option<Refused> {
+        None
+    }
+}
+
+impl<'a, P, T, R, L, M, const CLASS: u8> LooksIntoArms<'a, P, Or<T, R, CLASS>> for (L, M)
+where
+    T: ReadsValue<'a, P> + Tagged + Drop,
+    L: LooksInto<'a, P, T>,
+    M: LooksIntoArms<'a, P, R>,
+{
+    ghost silent_of_arms = { ArmIsTaken CLASS T.TAG T.value_gives M.silent_of_arms };
+
+    ghost tells_of_arms = { IsInArm CLASS T.TAG T.value_gives L.silent L.tells M.tells_of_arms };
+
+    fn look_in_arms(
+        alloc: Global,
+        header: &Header<'_>,
+        octets: &'a [u8],
+        end: usize,
+        place: usize,
+    ) -> Option<Refused> {
+        if !is_of_arm(CLASS, T::TAG, header) {
+            return match M::look_in_arms(alloc, header, octets, end, place.saturating_add(1)) {
+                Some(refused) => Some(refused),
+                None => None,
+            };
+        }
+        match T::read_value(alloc, octets) {
+            Ok(_) => None,
+            Err(refusal) => {
+                let refused = told::<P, T, L>(alloc, octets, end, refusal);
+                Some(refused.under(Step::Arm(place)))
+            }
+        }
+    }
+}
+
+/// Looks into none of these arms.
+impl<'a, P, A> LooksIntoArms<'a, P, A> for Whole {
+    ghost silent_of_arms = { ArmsAreSilent };
+
+    ghost tells_of_arms = { ArmsTellNothing };
+
+    fn look_in_arms(
+        _alloc: Global,
+        _header: &Header<'_>,
+        _octets: &'a [u8],
+        _end: usize,
+        _place: usize,
+    ) -> Option<Refused> {
+        None
+    }
+}
+
+/// Looks by `L` into the arm of a choice whose arms are `A`, as `InChoice<TimeArms, (Whole, (Whole, ()))>`.
+#[derive_where(Debug)]
+pub struct InChoice<A, L> {
+    arms: PhantomData<A>,
+    look: PhantomData<L>,
+}
+
+impl<'a, P, T, A, L> LooksInto<'a, P, T> for InChoice<A, L>
+where
+    Any<'a>: ReadsValue<'a, P>,
+    L: LooksIntoArms<'a, P, A>,
+{
+    ghost silent = { ChoiceIsTaken ⟦<Any<'a> as ReadsValue<'a, P>>⟧.value_gives L.silent_of_arms };
+
+    ghost tells = { IsInChoice ⟦<Any<'a> as ReadsValue<'a, P>>⟧.value_gives (L.tells_of_arms 0) };
+
+    fn look(alloc: Global, octets: &'a [u8], end: usize) -> Option<Refused> {
+        match <Any<'a> as ReadsValue<'a, P>>::read_value(alloc, octets) {
+            Ok((_, any)) => match L::look_in_arms(alloc, &any.header, octets, end, 0) {
+                Some(refused) => Some(refused),
+                None => None,
+            },
+            Err(_) => None,
+        }
+    }
+}
