@@ -1,5 +1,5 @@
 -- What requests and notices hold, with its laws. Which arm a request is, and which a notice is, with the laws of these.
-use Rattle.std.specs.Prelude.{ℕ, ℤ, Bool, negsuc, pos, refl}
+use Rattle.std.specs.Prelude.{ℕ, Bool, pos, refl}
 use Rattle.asn1_rs.specs.Prelude.{choice_of, Error, struct_of, struct_type}
 use Rattle.asn1_rs.specs.declared.asn1_types.tagged.Implicit.{Implicit}
 use Rattle.asn1_rs.specs.declared.asn1_types.tagged.TaggedValue.{TaggedValue}
@@ -24,10 +24,6 @@ use Rattle.asn1_rs_snmp.specs.declared.pdus.Pdus.TheVariants as pdus
 use Rattle.asn1_rs_snmp.specs.declared.requests.RequestPdus.{RequestPdus}
 use Rattle.asn1_rs_snmp.specs.declared.requests.RequestPdus.TheVariants as requests
 
--- the numbers that a request may have (RFC 3416, 3)
-abbrev pub is_request_id : ℤ → Bool
-is_request_id n = is_within (negsuc 214783647) (pos 214783647) n
-
 -- the numbers up to this one
 abbrev pub is_at_most : ℕ → ℕ → Bool
 is_at_most most n = is_within (pos 0) (pos most) (pos n)
@@ -36,14 +32,14 @@ is_at_most most n = is_within (pos 0) (pos most) (pos n)
 
 unfoldable pub pdu_laws : LawfulStructOf Pdu
 pdu_laws = struct_of (λ x. (x.request_id, (x.error_status, (x.error_index, (x.variable_bindings, tt)))))
-    (then_row (field_of (refined_type (λ x. x.value) is_request_id (signed_type 4)))
+    (then_row (field_of (signed_type 4))
     (then_row (field_of (refined_type (λ x. x.value) (is_at_most 18) (unsigned_type 1)))
     (then_row (field_of (refined_type (λ x. x.value) (is_at_most 2147483647) (unsigned_type 4)))
     (then_row (field_of (list_type (λ v. v.items) (struct_type var_bind_laws))) end_row)))) refl
 
 unfoldable pub bulk_pdu_laws : LawfulStructOf BulkPdu
 bulk_pdu_laws = struct_of (λ x. (x.request_id, (x.non_repeaters, (x.max_repetitions, (x.variable_bindings, tt)))))
-    (then_row (field_of (refined_type (λ x. x.value) is_request_id (signed_type 4)))
+    (then_row (field_of (signed_type 4))
     (then_row (field_of (refined_type (λ x. x.value) (is_at_most 2147483647) (unsigned_type 4)))
     (then_row (field_of (refined_type (λ x. x.value) (is_at_most 2147483647) (unsigned_type 4)))
     (then_row (field_of (list_type (λ v. v.items) (struct_type var_bind_laws))) end_row)))) refl

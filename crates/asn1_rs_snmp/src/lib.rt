@@ -22,13 +22,13 @@ pub use application::{
     ApplicationSyntax, ApplicationSyntaxArms, IpAddress, Opaque, has_four_octets,
 };
 pub use binding::{VarBind, VarBindRow, bindings_vec, read_bindings, read_bindings_whole};
-pub use message::{Message, MessageRow, Version2c, message_vec, read_message, read_message_whole};
+pub use message::{Message, MessageRow, message_vec, read_message, read_message_whole};
 pub use notices::{InformRequest, NoticePdus, NoticePdusArms, Report, Response, Trap};
 pub use numbers::{
     ApplicationNumber, ApplicationNumberArms, Counter32, Counter64, TimeTicks, Unsigned32,
 };
 pub use object::{ObjectSyntax, ObjectSyntaxArms};
-pub use pdu::{BindingNumber, BulkPdu, BulkPduRow, ErrorStatus, Pdu, PduRow, RequestId};
+pub use pdu::{BindingNumber, BulkPdu, BulkPduRow, ErrorStatus, Pdu, PduRow};
 pub use pdus::{Pdus, PdusArms};
 pub use requests::{
     GetBulkRequest, GetNextRequest, GetRequest, RequestPdus, RequestPdusArms, SetRequest,

@@ -1,5 +1,4 @@
 //! Messages of a community (RFC 1901, 3).
-ghost use Rattle.std.specs.Prelude.{◌≡◌};
 ghost use Rattle.asn1_rs.specs.Prelude.{ber_words, IsWhole, MadeOf, ReadsByBer, refl, seen, struct_of, TakesWhole};
 ghost use Rattle.asn1_rs.specs.Prelude.{WritesStrict};
 
@@ -13,11 +12,7 @@ use asn1_rs::{
     BerParser, Error, FromBer, OctetString, ParseResult, SerializeResult, ToDer,
     assert_fields_valid, put_fields, read_ber, read_ber_whole, read_fields, strict_vec,
 };
-use asn1_rs_profiles::{Range, Refined};
 use std::alloc::Global;
-
-/// The number of the version whose name is 2c.
-pub type Version2c = Refined<u32, Range<1, 1>>;
 
 /// A message of a community.
 ///
@@ -27,13 +22,13 @@ pub type Version2c = Refined<u32, Range<1, 1>>;
 ///         data       PDUs }
 #[derive(Debug, PartialEq, Eq, Drop)]
 pub struct Message<'a> {
-    pub version: Version2c,
+    pub version: u32,
     pub community: OctetString<'a>,
     pub data: Pdus<'a>,
 }
 
 /// Its fields.
-pub type MessageRow<'a> = Row3<Version2c, OctetString<'a>, Pdus<'a>>;
+pub type MessageRow<'a> = Row3<u32, OctetString<'a>, Pdus<'a>>;
 
 impl HasKind for Message<'_> {
     type Kind = FieldsKind;
@@ -92,11 +87,4 @@ pub fn message_vec(alloc: Global, message: &Message<'_>) -> SerializeResult<Vec<
         ⟦<Message<'static> as ToDer>⟧.writing message.now result }
 {
     strict_vec(alloc, message)
-}
-
-impl Message<'_> {
-    /// Each message in hand has the version of RFC 1901.
-    pub fn has_version(&self)
-        ensures { self.now.version.value ≡ 1 }
-    {}
 }

@@ -1,7 +1,7 @@
 //! What requests and answers hold (RFC 3416, 3).
-ghost use Rattle.std.specs.Prelude.{◌≤◌, IsTrue};
+ghost use Rattle.std.specs.Prelude.{◌≤◌};
 ghost use Rattle.asn1_rs.specs.Prelude.{MadeOf};
-ghost use Rattle.asn1_rs_snmp.specs.Pdus.{bulk_pdu_laws, is_request_id, pdu_laws};
+ghost use Rattle.asn1_rs_snmp.specs.Pdus.{bulk_pdu_laws, pdu_laws};
 
 use crate::binding::VarBind;
 use asn1_rs::author::{
@@ -11,9 +11,6 @@ use asn1_rs::author::{
 use asn1_rs::{BerParser, Error, SerializeResult, assert_fields_valid, put_fields};
 use asn1_rs_profiles::{Range, Refined};
 use std::alloc::Global;
-
-/// The number of a request, by which its answer names it. Its bounds are those of RFC 3416.
-pub type RequestId = Refined<i32, Range<-214_783_648, 214_783_647>>;
 
 /// Whether a request failed, and how: the names of these numbers stand in RFC 3416.
 pub type ErrorStatus = Refined<u8, Range<0, 18>>;
@@ -30,14 +27,14 @@ pub type BindingNumber = Refined<u32, Range<0, 0x7fff_ffff>>;
 ///         variable-bindings  SEQUENCE OF VarBind }
 #[derive(Debug, PartialEq, Eq, Drop)]
 pub struct Pdu<'a> {
-    pub request_id: RequestId,
+    pub request_id: i32,
     pub error_status: ErrorStatus,
     pub error_index: BindingNumber,
     pub variable_bindings: Vec<VarBind<'a>>,
 }
 
 /// Its fields.
-pub type PduRow<'a> = Row4<RequestId, ErrorStatus, BindingNumber, Vec<VarBind<'a>>>;
+pub type PduRow<'a> = Row4<i32, ErrorStatus, BindingNumber, Vec<VarBind<'a>>>;
 
 impl HasKind for Pdu<'_> {
     type Kind = FieldsKind;
@@ -95,14 +92,14 @@ impl<'a> ReadsFieldsByBer<'a> for Pdu<'a> {
 ///         variable-bindings  SEQUENCE OF VarBind }
 #[derive(Debug, PartialEq, Eq, Drop)]
 pub struct BulkPdu<'a> {
-    pub request_id: RequestId,
+    pub request_id: i32,
     pub non_repeaters: BindingNumber,
     pub max_repetitions: BindingNumber,
     pub variable_bindings: Vec<VarBind<'a>>,
 }
 
 /// Its fields.
-pub type BulkPduRow<'a> = Row4<RequestId, BindingNumber, BindingNumber, Vec<VarBind<'a>>>;
+pub type BulkPduRow<'a> = Row4<i32, BindingNumber, BindingNumber, Vec<VarBind<'a>>>;
 
 impl HasKind for BulkPdu<'_> {
     type Kind = FieldsKind;
@@ -155,7 +152,6 @@ impl<'a> ReadsFieldsByBer<'a> for BulkPdu<'a> {
 impl Pdu<'_> {
     /// Each request or answer in hand has numbers within the bounds of RFC 3416.
     pub fn has_numbers(&self)
-        ensures id { IsTrue (is_request_id self.now.request_id.value) }
         ensures status { self.now.error_status.value ≤ 18 }
         ensures index { self.now.error_index.value ≤ 2147483647 }
     {}
@@ -164,7 +160,6 @@ impl Pdu<'_> {
 impl BulkPdu<'_> {
     /// Each request for many variables in hand has numbers within the bounds of RFC 3416.
     pub fn has_numbers(&self)
-        ensures id { IsTrue (is_request_id self.now.request_id.value) }
         ensures repeaters { self.now.non_repeaters.value ≤ 2147483647 }
         ensures repetitions { self.now.max_repetitions.value ≤ 2147483647 }
     {}
