@@ -1,5 +1,5 @@
 -- What requests and notices hold, with its laws. Which arm a request is, and which a notice is, with the laws of these.
-use Rattle.std.specs.Prelude.{ℕ, refl}
+use Rattle.std.specs.Prelude.{ℕ, Bool, pos, refl}
 use Rattle.asn1_rs.specs.Prelude.{choice_of, Error, struct_of, struct_type}
 use Rattle.asn1_rs.specs.declared.asn1_types.tagged.Implicit.{Implicit}
 use Rattle.asn1_rs.specs.declared.asn1_types.tagged.TaggedValue.{TaggedValue}
@@ -9,6 +9,8 @@ use Rattle.asn1_rs.specs.declared.choices.arms.Or.TheVariants as arm
 use Rattle.asn1_rs.specs.Choices.Data.{LawfulChoiceOf, arm_before, end_of_arms}
 use Rattle.asn1_rs.specs.Structs.Data.{LawfulStructOf, LawfulTypeOf, end_row, field_of, then_row}
 use Rattle.asn1_rs.specs.Structs.Types.{implicit_type, list_type, signed_type, unsigned_type}
+use Rattle.asn1_rs_profiles.specs.Refined.Laws.{refined_type}
+use Rattle.asn1_rs_profiles.specs.Refined.Ready.{is_within}
 use Rattle.asn1_rs.specs.Choices.Nested.Data.{choice_before}
 use Rattle.asn1_rs.specs.declared.choices.nested.OrChoice.{OrChoice}
 use Rattle.asn1_rs.specs.declared.choices.nested.OrChoice.TheVariants as part
@@ -22,16 +24,24 @@ use Rattle.asn1_rs_snmp.specs.declared.pdus.Pdus.TheVariants as pdus
 use Rattle.asn1_rs_snmp.specs.declared.requests.RequestPdus.{RequestPdus}
 use Rattle.asn1_rs_snmp.specs.declared.requests.RequestPdus.TheVariants as requests
 
+-- the numbers up to this one
+abbrev pub is_at_most : ℕ → ℕ → Bool
+is_at_most most n = is_within (pos 0) (pos most) (pos n)
+
 -- The laws of what they hold. They go by these names. The proofs of the three functions of each open its name.
 
 unfoldable pub pdu_laws : LawfulStructOf Pdu
 pdu_laws = struct_of (λ x. (x.request_id, (x.error_status, (x.error_index, (x.variable_bindings, tt)))))
-    (then_row (field_of (signed_type 4)) (then_row (field_of (unsigned_type 1)) (then_row (field_of (unsigned_type 4))
+    (then_row (field_of (signed_type 4))
+    (then_row (field_of (refined_type (λ x. x.value) (is_at_most 18) (unsigned_type 1)))
+    (then_row (field_of (refined_type (λ x. x.value) (is_at_most 2147483647) (unsigned_type 4)))
     (then_row (field_of (list_type (λ v. v.items) (struct_type var_bind_laws))) end_row)))) refl
 
 unfoldable pub bulk_pdu_laws : LawfulStructOf BulkPdu
 bulk_pdu_laws = struct_of (λ x. (x.request_id, (x.non_repeaters, (x.max_repetitions, (x.variable_bindings, tt)))))
-    (then_row (field_of (signed_type 4)) (then_row (field_of (unsigned_type 4)) (then_row (field_of (unsigned_type 4))
+    (then_row (field_of (signed_type 4))
+    (then_row (field_of (refined_type (λ x. x.value) (is_at_most 2147483647) (unsigned_type 4)))
+    (then_row (field_of (refined_type (λ x. x.value) (is_at_most 2147483647) (unsigned_type 4)))
     (then_row (field_of (list_type (λ v. v.items) (struct_type var_bind_laws))) end_row)))) refl
 
 -- a struct in place of whose tag a context-specific one stands

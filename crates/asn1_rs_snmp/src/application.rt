@@ -1,7 +1,8 @@
 //! Values under tags of the application class (RFC 3416, 3).
 ghost use Rattle.asn1_rs.specs.Prelude.{ChecksOf, choice_numbers, choice_of, choice_type, class_number, has_a_class};
 ghost use Rattle.asn1_rs.specs.Prelude.{has_a_tag, is_one_of, numbers_of_choice, parts_of, refl};
-ghost use Rattle.std.specs.Prelude.{◌≡◌};
+ghost use Rattle.std.specs.Prelude.{◌≡◌, length};
+ghost use Rattle.asn1_rs.specs.OctetString.{octets_of};
 ghost use Rattle.asn1_rs.specs.declared.choices.arms.Or.TheVariants as arm;
 ghost use Rattle.asn1_rs.specs.declared.choices.nested.OrChoice.TheVariants as part;
 ghost use Rattle.asn1_rs_snmp.specs.declared.application.ApplicationSyntax.TheVariants as wides;
@@ -13,12 +14,13 @@ use asn1_rs::author::{
     UsesArm, check_arms, choice_of_element,
 };
 use asn1_rs::{Any, ApplicationImplicit, Class, DynTagged, Error, OctetString, Tag};
+use asn1_rs_profiles::{Refined, Size};
 use std::alloc::Global;
 
 /// A value under a tag of the application class.
 ///
 ///     ApplicationSyntax ::= CHOICE {
-///         ipAddress-value   [APPLICATION 0] IMPLICIT OCTET STRING (SIZE (4)),
+///         ipAddress-value   [APPLICATION 0] IMPLICIT OCTET STRING,
 ///         arbitrary-value   [APPLICATION 4] IMPLICIT OCTET STRING,
 ///         and the numbers   }
 #[derive(Debug, PartialEq, Eq, Drop)]
@@ -28,8 +30,8 @@ pub enum ApplicationSyntax<'a> {
     Arbitrary(Opaque<'a>),
 }
 
-/// An address of the internet protocol.
-pub type IpAddress<'a> = ApplicationImplicit<OctetString<'a>, Error, 0>;
+/// An address of the internet protocol, version 4 (RFC 2578, 7.1.5).
+pub type IpAddress<'a> = ApplicationImplicit<Refined<OctetString<'a>, Size<4, 4>>, Error, 0>;
 
 /// Octets of another encoding.
 pub type Opaque<'a> = ApplicationImplicit<OctetString<'a>, Error, 4>;
@@ -149,3 +151,8 @@ impl<'a> ToldByNumber for ApplicationSyntax<'a> {
 impl<'a> LawfulType for ApplicationSyntax<'a> {
     ghost type_laws = { choice_type ⟦<ApplicationSyntax<'a> as LawfulChoice>⟧.laws };
 }
+
+/// An address in hand is an address of version 4.
+pub fn has_four_octets(address: &IpAddress<'_>)
+    ensures { length (octets_of address.now.inner.value) ≡ 4 }
+{}

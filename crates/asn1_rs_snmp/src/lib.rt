@@ -18,7 +18,9 @@ mod requests;
 mod simple;
 mod value;
 
-pub use application::{ApplicationSyntax, ApplicationSyntaxArms, IpAddress, Opaque};
+pub use application::{
+    ApplicationSyntax, ApplicationSyntaxArms, IpAddress, Opaque, has_four_octets,
+};
 pub use binding::{VarBind, VarBindRow, bindings_vec, read_bindings, read_bindings_whole};
 pub use message::{Message, MessageRow, message_vec, read_message, read_message_whole};
 pub use notices::{InformRequest, NoticePdus, NoticePdusArms, Report, Response, Trap};
@@ -26,10 +28,10 @@ pub use numbers::{
     ApplicationNumber, ApplicationNumberArms, Counter32, Counter64, TimeTicks, Unsigned32,
 };
 pub use object::{ObjectSyntax, ObjectSyntaxArms};
-pub use pdu::{BulkPdu, BulkPduRow, Pdu, PduRow};
+pub use pdu::{BindingNumber, BulkPdu, BulkPduRow, ErrorStatus, Pdu, PduRow};
 pub use pdus::{Pdus, PdusArms};
 pub use requests::{
     GetBulkRequest, GetNextRequest, GetRequest, RequestPdus, RequestPdusArms, SetRequest,
 };
-pub use simple::{SimpleSyntax, SimpleSyntaxArms};
+pub use simple::{ShortString, SimpleSyntax, SimpleSyntaxArms, is_short};
 pub use value::{BindingValue, BindingValueArms, EndOfView, NoSuchInstance, NoSuchObject};

@@ -13,10 +13,10 @@ use std::alloc::Global;
 
 /// A number under a tag of the application class (RFC 2578, 7.1).
 ///
-///     counter-value           [APPLICATION 1] IMPLICIT INTEGER (0..4294967295)
-///     unsigned-integer-value  [APPLICATION 2] IMPLICIT INTEGER (0..4294967295)
-///     timeticks-value         [APPLICATION 3] IMPLICIT INTEGER (0..4294967295)
-///     big-counter-value       [APPLICATION 6] IMPLICIT INTEGER (0..18446744073709551615)
+///     counter-value           [APPLICATION 1] IMPLICIT INTEGER
+///     unsigned-integer-value  [APPLICATION 2] IMPLICIT INTEGER
+///     timeticks-value         [APPLICATION 3] IMPLICIT INTEGER
+///     big-counter-value       [APPLICATION 6] IMPLICIT INTEGER
 #[derive(Debug, PartialEq, Eq, Drop)]
 pub enum ApplicationNumber {
     Counter(Counter32),

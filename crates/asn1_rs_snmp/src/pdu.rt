@@ -1,4 +1,5 @@
 //! What requests and answers hold (RFC 3416, 3).
+ghost use Rattle.std.specs.Prelude.{◌≤◌};
 ghost use Rattle.asn1_rs.specs.Prelude.{MadeOf};
 ghost use Rattle.asn1_rs_snmp.specs.Pdus.{bulk_pdu_laws, pdu_laws};
 
@@ -8,25 +9,32 @@ use asn1_rs::author::{
     StructReader, struct_by_ber,
 };
 use asn1_rs::{BerParser, Error, SerializeResult, assert_fields_valid, put_fields};
+use asn1_rs_profiles::{Range, Refined};
 use std::alloc::Global;
 
-/// A request or an answer. The numbers of the status stand in RFC 3416.
+/// Whether a request failed, and how: the names of these numbers stand in RFC 3416.
+pub type ErrorStatus = Refined<u8, Range<0, 18>>;
+
+/// A number of bindings, up to `max-bindings`.
+pub type BindingNumber = Refined<u32, Range<0, 0x7fff_ffff>>;
+
+/// A request or an answer.
 ///
 ///     PDU ::= SEQUENCE {
-///         request-id         INTEGER (-214783648..214783647),
-///         error-status       INTEGER (0..18),
-///         error-index        INTEGER (0..2147483647),
+///         request-id         INTEGER,
+///         error-status       INTEGER,
+///         error-index        INTEGER,
 ///         variable-bindings  SEQUENCE OF VarBind }
 #[derive(Debug, PartialEq, Eq, Drop)]
 pub struct Pdu<'a> {
     pub request_id: i32,
-    pub error_status: u8,
-    pub error_index: u32,
+    pub error_status: ErrorStatus,
+    pub error_index: BindingNumber,
     pub variable_bindings: Vec<VarBind<'a>>,
 }
 
 /// Its fields.
-pub type PduRow<'a> = Row4<i32, u8, u32, Vec<VarBind<'a>>>;
+pub type PduRow<'a> = Row4<i32, ErrorStatus, BindingNumber, Vec<VarBind<'a>>>;
 
 impl HasKind for Pdu<'_> {
     type Kind = FieldsKind;
@@ -78,20 +86,20 @@ impl<'a> ReadsFieldsByBer<'a> for Pdu<'a> {
 /// A request for many variables.
 ///
 ///     BulkPDU ::= SEQUENCE {
-///         request-id         INTEGER (-214783648..214783647),
-///         non-repeaters      INTEGER (0..2147483647),
-///         max-repetitions    INTEGER (0..2147483647),
+///         request-id         INTEGER,
+///         non-repeaters      INTEGER,
+///         max-repetitions    INTEGER,
 ///         variable-bindings  SEQUENCE OF VarBind }
 #[derive(Debug, PartialEq, Eq, Drop)]
 pub struct BulkPdu<'a> {
     pub request_id: i32,
-    pub non_repeaters: u32,
-    pub max_repetitions: u32,
+    pub non_repeaters: BindingNumber,
+    pub max_repetitions: BindingNumber,
     pub variable_bindings: Vec<VarBind<'a>>,
 }
 
 /// Its fields.
-pub type BulkPduRow<'a> = Row4<i32, u32, u32, Vec<VarBind<'a>>>;
+pub type BulkPduRow<'a> = Row4<i32, BindingNumber, BindingNumber, Vec<VarBind<'a>>>;
 
 impl HasKind for BulkPdu<'_> {
     type Kind = FieldsKind;
@@ -139,4 +147,20 @@ impl<'a> ReadsFieldsByBer<'a> for BulkPdu<'a> {
     fn read_fields_by_ber(alloc: Global, octets: &'a [u8]) -> Result<BulkPdu<'a>, Error> {
         struct_by_ber(alloc, octets)
     }
+}
+
+impl Pdu<'_> {
+    /// Each request or answer in hand has numbers within the bounds of RFC 3416.
+    pub fn has_numbers(&self)
+        ensures status { self.now.error_status.value ≤ 18 }
+        ensures index { self.now.error_index.value ≤ 2147483647 }
+    {}
+}
+
+impl BulkPdu<'_> {
+    /// Each request for many variables in hand has numbers within the bounds of RFC 3416.
+    pub fn has_numbers(&self)
+        ensures repeaters { self.now.non_repeaters.value ≤ 2147483647 }
+        ensures repetitions { self.now.max_repetitions.value ≤ 2147483647 }
+    {}
 }

@@ -1,7 +1,8 @@
 //! Values of universal types (RFC 3416, 3).
 ghost use Rattle.asn1_rs.specs.Prelude.{ChecksOf, choice_numbers, choice_of, choice_type, class_number, has_a_class};
 ghost use Rattle.asn1_rs.specs.Prelude.{has_a_tag, is_one_of, numbers_of_choice, parts_of, refl};
-ghost use Rattle.std.specs.Prelude.{◌≡◌};
+ghost use Rattle.std.specs.Prelude.{◌≡◌, ◌≤◌, length};
+ghost use Rattle.asn1_rs.specs.OctetString.{octets_of};
 ghost use Rattle.asn1_rs.specs.declared.choices.arms.Or.TheVariants as arm;
 ghost use Rattle.asn1_rs_snmp.specs.declared.simple.SimpleSyntax.TheVariants as simples;
 
@@ -11,25 +12,29 @@ use asn1_rs::author::{
     ToldChoice, UsesArm, check_arms, choice_of_element,
 };
 use asn1_rs::{Any, Class, DynTagged, Error, OctetString, Oid, Tag};
+use asn1_rs_profiles::{Refined, Size};
 use std::alloc::Global;
 
 /// A value of a type without a tag of its own.
 ///
 ///     SimpleSyntax ::= CHOICE {
-///         integer-value   INTEGER (-2147483648..2147483647),
-///         string-value    OCTET STRING (SIZE (0..65535)),
+///         integer-value   INTEGER,
+///         string-value    OCTET STRING,
 ///         objectID-value  OBJECT IDENTIFIER }
 #[derive(Debug, PartialEq, Eq, Drop)]
 pub enum SimpleSyntax<'a> {
     Integer(i32),
-    String(OctetString<'a>),
+    String(ShortString<'a>),
     ObjectId(Oid<'a>),
 }
+
+/// Octets, of a size that each agent takes (RFC 2578, 7.1.2).
+pub type ShortString<'a> = Refined<OctetString<'a>, Size<0, 65535>>;
 
 /// Its arms.
 pub type SimpleSyntaxArms<'a> = OrUniversal<
     i32,
-    OrUniversal<OctetString<'a>, OrUniversal<Oid<'a>, Never>>,
+    OrUniversal<ShortString<'a>, OrUniversal<Oid<'a>, Never>>,
 >;
 
 impl HasKind for SimpleSyntax<'_> {
@@ -141,3 +146,8 @@ impl<'a> ToldByNumber for SimpleSyntax<'a> {
 impl<'a> LawfulType for SimpleSyntax<'a> {
     ghost type_laws = { choice_type ⟦<SimpleSyntax<'a> as LawfulChoice>⟧.laws };
 }
+
+/// A string in hand is no longer than each agent takes.
+pub fn is_short(string: &ShortString<'_>)
+    ensures { length (octets_of string.now.value) ≤ 65535 }
+{}
