@@ -1,7 +1,6 @@
-use Rattle.std.proofs.Common.{◌≡◌, ◌∙◌, ap, sym, subst, ℕ, ◌*◌, ◌-◌, ◌≤◌, List, length, take, Some, Ok, codes, arith}
+use Rattle.std.proofs.Common.{◌≡◌, ◌∙◌, ap, sym, subst, ℕ, ◌*◌, ◌-◌, ◌≤◌, List, length, take, Some, Ok, arith}
 use Rattle.std.proofs.lemmas.List.{length-take-le}
 use Rattle.json.specs.Json.{number}
-use Rattle.json.specs.Value.{members_view}
 use Rattle.asn1_words.specs.Words.{number_text}
 use Rattle.asn1_schema.specs.Grammar.{bits_in}
 use Rattle.asn1_schema.proofs.BitContents.{bits_length}
@@ -26,7 +25,7 @@ returns-in-Some-3 c =
     record {
       text = c.in-Some.text.now;
       value = c.in-Some.ensures;
-      octets = hex ∙ ap Ok full;
+      octets = hex.0 ∙ ap Ok full;
       length = c.in-Some-number_member.ensures ∙ ap (λ (t : List ℕ). Some (number t)) (said ∙ ap (λ (x : List ℕ). number_text (8 * length x - u)) c.deref.ensures.value ∙ ap number_text (sym count));
       both = members_counted c.args.members.now ∙ two;
     }

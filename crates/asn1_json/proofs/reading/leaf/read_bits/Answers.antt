@@ -1,18 +1,11 @@
-use Rattle.std.proofs.Common.{◌≡◌, ◌∙◌, ap, sym, refl, subst, ℕ, ℤ, Bool, ◌*◌, ◌-◌, List, [], length, take, Option, Some, MatchOption, Ok, encode_utf8_all}
-use Rattle.std.specs.Prelude.{IfSome}
-use Rattle.x690.specs.Digits.{twos_complement_value}
-use Rattle.x690.specs.Octets.{IsOctets}
-use Rattle.json.specs.Json.{Json, object, string}
+use Rattle.std.proofs.Common.{◌∙◌, ap, sym, refl, ℕ, Bool, ◌*◌, ◌-◌, List, [], length, take}
+use Rattle.json.specs.Json.{object}
 use Rattle.json.specs.Value.{members_view, value_view}
-use Rattle.asn1_words.specs.Words.{integer_text}
 use Rattle.asn1_schema.specs.declared.schema.Kind.TheVariants as kinds
 use Rattle.asn1_schema.specs.Grammar.{bits_in}
-use Rattle.asn1_schema.specs.Values.{boolean, null, integer, enumerated, bits, octets, identifier, text, time, any}
-use Rattle.asn1_json.specs.DenotedLeaves.{DenotesBits, DenotesIdentifier, DenotesInteger, DenotesListed, DenotesText, IsHexadecimal}
-use Rattle.asn1_json.specs.Types.{labels_at}
-use Rattle.asn1_json.proofs.Views.{null_view, truth_view, number_view}
+use Rattle.asn1_schema.specs.Values.{bits}
 use Rattle.json.proofs.Trees.{view-Object}
-use Rattle.asn1_json.proofs.MadeLeaves.{put_leaf, some_is}
+use Rattle.asn1_json.proofs.MadeLeaves.{put_made, some_is}
 use Rattle.asn1_json.proofs.reading.leaf.read_bits.Goals as goal
 
 pub returns-in-Some : goal.returns-in-Some
@@ -23,7 +16,7 @@ returns-in-Some c = λ named.
     let ms = members_view c.deref.result.now in
     let said = some_is _ _
     c.in_ok-unused.field-0 (u, c.in-Some.octets) c.in-Some.is c.in_ok-unused.ensures in
-    put_leaf l [] (kinds.Bits named) (value_view c.args.value.now) _ _ _ c.put.result (c.put.ensures l refl) (
+    put_made l [] (kinds.Bits named) (value_view c.args.value.now) _ _ _ c.put.result (c.put.ensures l refl) (
       ms,
       bs c.in-Some.octets.items,
       ap value_view c.in-Object.is ∙ view-Object c.in-Object.members ∙ ap (λ z. object (members_view z)) (sym c.deref.ensures.value),
