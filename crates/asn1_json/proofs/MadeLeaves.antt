@@ -1,7 +1,7 @@
 -- Values without parts that are put on a tape.
 use Rattle.std.proofs.Common.{◌≡◌, ◌∙◌, ap, sym, subst, ℕ, Bool, false, List, [], Result, Ok, Err}
 use Rattle.std.specs.Prelude.{IfOk, IfSome, OnOk, Option, MatchOption}
-use Rattle.json.specs.Json.{Json, boolean, number, string}
+use Rattle.json.specs.Json.{Json, boolean, number, string, object, Members, no_members}
 use Rattle.asn1_schema.specs.declared.schema.Kind.{Kind}
 use Rattle.asn1_schema.specs.declared.schema.Kind.TheVariants as kinds
 use Rattle.asn1_schema.specs.declared.names.PartName.{PartName}
@@ -75,12 +75,22 @@ truth_in _ = false
 pub same_text : (s t : List ℕ) → string s ≡ string t → s ≡ t
 same_text s t e = ap text_in e
 
+pub same_numeral : (s t : List ℕ) → number s ≡ number t → s ≡ t
+same_numeral s t e = ap text_in e
+
+abbrev members_in : Json → Members
+members_in (object ms) = ms
+members_in _ = no_members
+
+pub same_members : (ms ns : Members) → object ms ≡ object ns → ms ≡ ns
+same_members ms ns e = ap members_in e
+
 pub same_truth : (b c : Bool) → boolean b ≡ boolean c → b ≡ c
 same_truth b c e = ap truth_in e
 
 -- a value that a string says, and no other
 module _ (P : List ℕ → List ℕ → Type 0) (s : List ℕ) (j : Json) (is : j ≡ string s) where
-  text_there : (t x : List ℕ) → j ≡ string t → P t x → P s x
+  pub text_there : (t x : List ℕ) → j ≡ string t → P t x → P s x
   text_there t x e p = subst (λ (u : List ℕ). P u x) (sym (same_text s t (sym is ∙ e))) p
 
   pub one_said : (f : List ℕ → Leaf) (own : List ℕ) (o : List ℕ) → own ≡ o → ((x : List ℕ) → P s x → x ≡ own) → (m : Leaf) →

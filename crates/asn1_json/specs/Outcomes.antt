@@ -1,7 +1,7 @@
 -- What comes of JSON that is read.
-use Rattle.std.specs.Prelude.{ℕ, ◌≡◌, ◌<◌, List, drop, Option, Result, MatchResult, All}
+use Rattle.std.specs.Prelude.{ℕ, ◌≡◌, List, drop, Option, Some, None, Result, MatchResult, All}
 use Rattle.x690.specs.Identifiers.{Identifier}
-use Rattle.x690.specs.Strict.{element_octets}
+use Rattle.x690.specs.Elements.{IsStrictElement}
 use Rattle.json.specs.Json.{Json, array, Items, Members}
 use Rattle.json.specs.Value.{value_view}
 use Rattle.asn1_schema.specs.declared.schema.Field.{Field}
@@ -31,10 +31,11 @@ HasWord table depth of v = (word : List ℕ) × Word strict table depth of word 
 abbrev pub DenotesSimple : List PartName → Kind → Json → Value → Type 0
 DenotesSimple labels kind j v = (l : Leaf) × (v ≡ leaf l) × DenotesLeaf labels kind j l
 
--- octets are one element with a strict header, which an item is
-abbrev pub IsElementItem : List ℕ → Item → Type 0
-IsElementItem octets item = (id : Identifier) × (content : List ℕ) × (id.class < 4) ×
-    (octets ≡ element_octets id content) × (mark item ≡ leaf_mark (any id content))
+-- the one element with a strict header that octets are, which an item is; or they are none
+abbrev pub IsElementFound : List ℕ → Option Item → Type 0
+IsElementFound octets None = (id : Identifier) (content : List ℕ) → IsStrictElement octets id content → ⊥
+IsElementFound octets (Some item) =
+    (id : Identifier) × (content : List ℕ) × IsStrictElement octets id content × (mark item ≡ leaf_mark (any id content))
 
 -- No value has both.
 abbrev pub HaveNone : {V : Type 0} → (V → Type 0) → (V → Type 0) → Type 0

@@ -1,5 +1,5 @@
 //! Values without parts, from JSON.
-ghost use Rattle.std.specs.Prelude.{ℤ, Bool, [], ◌≡◌, ◌<◌, ◌++◌, true, Some, IfOk, IfSome, MatchResult, OnOk, length};
+ghost use Rattle.std.specs.Prelude.{ℤ, Bool, [], ◌≡◌, ◌<◌, ◌++◌, true, false, Some, IfOk, IfSome, MatchResult, OnOk, length};
 ghost use Rattle.x690.specs.Strict.{header_octets};
 ghost use Rattle.std.specs.declared.vec.Vec.{Vec};
 ghost use Rattle.std.specs.declared.alloc.Global.{Global};
@@ -11,7 +11,7 @@ ghost use Rattle.asn1_schema.specs.Tape.{leaf_mark, mark, marks};
 ghost use Rattle.asn1_schema.specs.Values.{Leaf, Value as SpecValue, leaf};
 ghost use Rattle.asn1_json.specs.DenotedLeaves.{DenotesIdentifier};
 ghost use Rattle.asn1_json.specs.Made.{tape_of_value};
-ghost use Rattle.asn1_json.specs.Outcomes.{DenotesSimple, HasWord, IsElementItem, Makes, Reads, ReadsLeaf};
+ghost use Rattle.asn1_json.specs.Outcomes.{DenotesSimple, HasWord, IsElementFound, Makes, Reads, ReadsLeaf};
 ghost use Rattle.asn1_json.specs.Types.{labels_at};
 ghost use Rattle.asn1_json.specs.declared.reading.trail.Fault.TheVariants as faults;
 
@@ -201,8 +201,8 @@ fn read_bits(
     trail: &mut Trail,
 ) -> Result<(), Fault>
     requires sound { is_sound by.types.table.now ≡ true }
-    ensures { (named : Bool) → OnOk result (Makes (DenotesSimple [] (kinds.Bits named)
-        (value_view value.now)) made.old made.new) }
+    ensures { (named : Bool) → ReadsLeaf by.entry of [] (kinds.Bits named) (value_view value.now)
+        made.old made.new result }
 {
     let Value::Object(members) = value else {
         return Err(trail.refused(of, Reason::Bits));
@@ -323,6 +323,8 @@ fn is_element(
     ensures class { IfOk result (λ is. is ≡ true → class < 4) }
     ensures octets { IfOk result (λ is. is ≡ true → octets.now ≡
         header_octets class constructed number (length content.now) ++ content.now) }
+    ensures other { IfOk result (λ is. is ≡ false → class < 4 → ¬ (octets.now ≡
+        header_octets class constructed number (length content.now) ++ content.now)) }
 {
     if class >= 4 {
         return Ok(false);
@@ -335,7 +337,7 @@ fn is_element(
 ///
 /// That they are is seen from its strict encoding.
 fn element_of(alloc: Global, octets: &[u8]) -> Result<Option<Item<'_>>, AllocError>
-    ensures { IfOk result (λ found. IfSome found (IsElementItem octets.now)) }
+    ensures { IfOk result (IsElementFound octets.now) }
 {
     let Ok((_, (header, content))) = element_by_der(octets) else {
         return Ok(None);
@@ -359,8 +361,8 @@ fn read_element(
     trail: &mut Trail,
 ) -> Result<(), Fault>
     requires sound { is_sound by.types.table.now ≡ true }
-    ensures { OnOk result (Makes (DenotesSimple [] kinds.Any (value_view value.now))
-        made.old made.new) }
+    ensures { ReadsLeaf by.entry of [] kinds.Any (value_view value.now)
+        made.old made.new result }
 {
     let Value::String(text) = value else {
         return Err(trail.refused(of, Reason::Element));

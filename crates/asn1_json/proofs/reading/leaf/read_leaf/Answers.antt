@@ -45,4 +45,9 @@ returns-in-Time c =
 pub returns-in-Bits : goal.returns-in-Bits
 returns-in-Bits c =
     subst (λ (k : Kind). OnOk c.read_bits.result (Makes (DenotesSimple (labels_at c.args.by.types.names.now (Some c.args.at)) k (value_view c.args.value.now))
-    c.args.made.now c.read_bits.new.made)) (sym c.in-Bits.is) (c.read_bits.ensures c.in-Bits.field-0)
+    c.args.made.now c.read_bits.new.made)) (sym c.in-Bits.is) (reads_makes _ _ _ _ c.read_bits.result (c.read_bits.ensures c.in-Bits.field-0))
+
+pub returns-in-Any : goal.returns-in-Any
+returns-in-Any c =
+    subst (λ (k : Kind). OnOk c.read_element.result (Makes (DenotesSimple (labels_at c.args.by.types.names.now (Some c.args.at)) k (value_view c.args.value.now))
+    c.args.made.now c.read_element.new.made)) (sym c.in-Any.is) (reads_makes _ _ _ _ c.read_element.result c.read_element.ensures)
