@@ -1,5 +1,6 @@
 //! Bit strings, from objects of JSON.
-ghost use Rattle.std.specs.Prelude.{ℕ, ◌≡◌, ◌≢◌, ◌-◌, ◌*◌, ◌<◌, Bool, List, IfNone, IfOk, IfSome, MatchOption, Some, false, length, take, true};
+ghost use Rattle.std.specs.Prelude.{ℕ, ◌≡◌, ◌≢◌, ◌-◌, ◌*◌, ◌<◌, Bool, List, IfNone};
+ghost use Rattle.std.specs.Prelude.{IfOk, IfSome, MatchOption, Some, false, length, take, true};
 ghost use Rattle.json.specs.Find.{get_member};
 ghost use Rattle.json.specs.Json.{number, string};
 ghost use Rattle.json.specs.Value.{members_view};
