@@ -7,7 +7,7 @@ use Rattle.x690.specs.Identifiers.{bit}
 use Rattle.asn1_json.specs.Leaves.{number_of_bits, octets_from, octets_of_bits}
 
 -- one bit more, at the low end
-bit_more : (k : ℕ) (bs : List Bool) → number_of_bits (suc k) bs ≡ number_of_bits k bs * 2 + bit (get_or bs k false)
+pub bit_more : (k : ℕ) (bs : List Bool) → number_of_bits (suc k) bs ≡ number_of_bits k bs * 2 + bit (get_or bs k false)
 bit_more zero [] = refl
 bit_more zero (true ∷ bs) = refl
 bit_more zero (false ∷ bs) = refl

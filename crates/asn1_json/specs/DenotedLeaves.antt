@@ -1,5 +1,5 @@
 -- Which values without parts JSON denotes (ITU-T X.697).
-use Rattle.std.specs.Prelude.{ℕ, ℤ, zero, suc, Bool, true, false, List, [], ◌∷◌, ◌≡◌, ◌⊎◌, ◌<◌, ◌/◌, ◌||◌, ◌&&◌, length, codes, Option, Some, None, Ok}
+use Rattle.std.specs.Prelude.{ℕ, ℤ, zero, suc, Bool, true, false, List, [], ◌∷◌, ◌≡◌, ◌||◌, ◌&&◌, length, codes, Option, Some, None, Ok}
 use Rattle.std.specs.Prelude.{encode_utf8_all, if◌then◌else◌, nat_eq}
 use Rattle.std.specs.List.{list_any}
 use Rattle.std.specs.Str.{bytes_eq}
@@ -8,7 +8,7 @@ use Rattle.json.specs.Json.{Json, boolean, null, number, string, object, Members
 use Rattle.json.specs.Find.{get_member}
 use Rattle.x690.specs.Octets.{IsOctets}
 use Rattle.x690.specs.Identifiers.{Identifier}
-use Rattle.x690.specs.Strict.{element_octets}
+use Rattle.x690.specs.Elements.{IsStrictElement}
 use Rattle.x690.specs.Arcs.{AreShortest}
 use Rattle.x690.specs.Characters.{Codes, utf16_octets, ucs4_octets}
 use Rattle.asn1_words.specs.Words.{number_text, integer_text}
@@ -78,7 +78,7 @@ DenotesText _ s o = IsOctets o × (s ≡ encode_utf8_all o)
 
 -- one element with a strict header, in hexadecimal
 abbrev pub DenotesElement : List ℕ → Identifier → List ℕ → Type 0
-DenotesElement s id o = (id.class < 4) × IsHexadecimal s (element_octets id o)
+DenotesElement s id o = (octets : List ℕ) × IsHexadecimal s octets × IsStrictElement octets id o
 
 -- JSON denotes a value without parts of a kind, where the type has these names.
 abbrev pub DenotesLeaf : List PartName → Kind → Json → Leaf → Type 0

@@ -1,7 +1,7 @@
 -- What comes of JSON that is read.
-use Rattle.std.specs.Prelude.{ℕ, ◌≡◌, ◌<◌, List, drop, Option, Result, MatchResult, All}
+use Rattle.std.specs.Prelude.{ℕ, ◌≡◌, List, drop, Option, Some, None, Result, MatchResult, All}
 use Rattle.x690.specs.Identifiers.{Identifier}
-use Rattle.x690.specs.Strict.{element_octets}
+use Rattle.x690.specs.Elements.{IsStrictElement}
 use Rattle.json.specs.Json.{Json, array, Items, Members}
 use Rattle.json.specs.Value.{value_view}
 use Rattle.asn1_schema.specs.declared.schema.Field.{Field}
@@ -13,12 +13,13 @@ use Rattle.asn1_schema.specs.declared.owned.OwnedTape.{OwnedTape}
 use Rattle.asn1_schema.specs.Owned.{Appends, owned_marks}
 use Rattle.asn1_schema.specs.Grammar.{Body, LeftOut, Word}
 use Rattle.asn1_schema.specs.Rules.{der, strict}
-use Rattle.asn1_schema.specs.Tape.{Mark, Kept, KeptRow, mark, leaf_mark, tape_of, tapes_of, value_of, values_of}
+use Rattle.asn1_schema.specs.Tape.{Kept, KeptRow, mark, leaf_mark, tape_of, tapes_of, value_of, values_of}
 use Rattle.asn1_schema.specs.Values.{Leaf, Value, Values, leaf, row, any, none, absent, more}
 use Rattle.asn1_json.specs.DenotedLeaves.{DenotesLeaf}
 use Rattle.asn1_json.specs.Denotes.{DenoteFields, DenoteItems, DenoteSet, DenotesComponent}
 use Rattle.asn1_json.specs.Tokens.{Types}
 use Rattle.asn1_json.specs.declared.reading.arranged.Member.{Member}
+use Rattle.asn1_json.specs.declared.reading.leaf.By.{By}
 use Rattle.asn1_json.specs.declared.reading.trail.Fault.{Fault}
 use Rattle.asn1_json.specs.declared.reading.trail.Fault.TheVariants as faults
 
@@ -30,26 +31,15 @@ HasWord table depth of v = (word : List ℕ) × Word strict table depth of word 
 abbrev pub DenotesSimple : List PartName → Kind → Json → Value → Type 0
 DenotesSimple labels kind j v = (l : Leaf) × (v ≡ leaf l) × DenotesLeaf labels kind j l
 
--- octets are one element with a strict header, which an item is
-abbrev pub IsElementItem : List ℕ → Item → Type 0
-IsElementItem octets item = (id : Identifier) × (content : List ℕ) × (id.class < 4) ×
-    (octets ≡ element_octets id content) × (mark item ≡ leaf_mark (any id content))
+-- the one element with a strict header that octets are, which an item is; or they are none
+abbrev pub IsElementFound : List ℕ → Option Item → Type 0
+IsElementFound octets None = (id : Identifier) (content : List ℕ) → IsStrictElement octets id content → ⊥
+IsElementFound octets (Some item) =
+    (id : Identifier) × (content : List ℕ) × IsStrictElement octets id content × (mark item ≡ leaf_mark (any id content))
 
 -- No value has both.
 abbrev pub HaveNone : {V : Type 0} → (V → Type 0) → (V → Type 0) → Type 0
 HaveNone {V} D W = (v : V) → D v → W v → ⊥
-
--- What is denoted was put behind the marks of a tape, and nothing else that is denoted has a strict encoding.
-pub record Puts {V : Type 0} (tape_of : V → List Mark) (D W : V → Type 0) (old new : OwnedTape) : Type 0 where
-  pub value : V
-  pub denotes : D value
-  pub only : (other : V) → D other → W other → other ≡ value
-  pub put : Appends old new (tape_of value)
-
--- Where it is refused, nothing that is denoted has a strict encoding.
-abbrev pub Reads : {V T : Type 0} → (V → List Mark) → (V → Type 0) → (V → Type 0) → OwnedTape → OwnedTape → Result T Fault → Type 0
-Reads tape_of D W old new result =
-    MatchResult result (λ _. Puts tape_of D W old new) (λ fault. fault ≡ faults.Refused → HaveNone D W)
 
 -- A value that is denoted was put behind the marks of a tape, and nothing else was.
 pub record Makes (D : Value → Type 0) (old new : OwnedTape) : Type 0 where
@@ -62,6 +52,18 @@ pub record MakesRow (D : Values → Type 0) (old new : OwnedTape) : Type 0 where
   pub kept : KeptRow
   pub denotes : D (values_of kept)
   pub put : Appends old new (tapes_of kept)
+
+-- A value is denoted, and no other that is denoted has a strict encoding.
+abbrev pub IsOnly : {V : Type 0} → (V → Type 0) → (V → Type 0) → V → Type 0
+IsOnly {V} D W v = D v × ((other : V) → D other → W other → other ≡ v)
+
+-- Such a value was put behind the marks of a tape. Where it is refused, nothing that is denoted has a strict encoding.
+abbrev pub Reads : {T : Type 0} → (D W : Value → Type 0) → OwnedTape → OwnedTape → Result T Fault → Type 0
+Reads D W old new result = MatchResult result (λ _. Makes (IsOnly D W) old new) (λ fault. fault ≡ faults.Refused → HaveNone D W)
+
+-- so of values without parts
+abbrev pub ReadsLeaf : {T : Type 0} → By → ℕ → List PartName → Kind → Json → OwnedTape → OwnedTape → Result T Fault → Type 0
+ReadsLeaf by of labels kind j = Reads (DenotesSimple labels kind j) (HasWord by.types.table.now by.depth of)
 
 -- a component is left out: it may be, or this is the value of its default
 abbrev pub LeftOutOnce : List Node → ℕ → Field → Values → Type 0

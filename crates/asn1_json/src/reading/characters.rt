@@ -1,12 +1,12 @@
 //! The octets of character strings, from texts.
-ghost use Rattle.std.specs.Prelude.{◌≡◌, true, IfOk, encode_utf8_all, MatchOption};
+ghost use Rattle.std.specs.Prelude.{◌≡◌, IfOk, IfSome, MatchOption, encode_utf8_all};
 ghost use Rattle.std.specs.Str.{chars};
 ghost use Rattle.x690.specs.Characters.{code_of};
 ghost use Rattle.x690.specs.Octets.{IsOctets};
 ghost use Rattle.asn1_schema.specs.declared.schema.TextKind.TheVariants as texts;
 ghost use Rattle.asn1_json.specs.DenotedLeaves.{DenotesText};
+ghost use Rattle.asn1_json.specs.Found.{Finds};
 
-use crate::texts::octet_text;
 use asn1_schema::schema::TextKind;
 use std::alloc::{AllocError, Global};
 use x690::characters::{CharacterCode, Ucs4, Utf16, fill};
@@ -27,7 +27,11 @@ fn coded<C: CharacterCode>(alloc: Global, text: &str) -> Result<Vec<u8>, AllocEr
 }
 
 /// The numbers of the characters of a text. None are answered where one is above 255.
-fn numbers_of(alloc: Global, text: &str) -> Result<Option<Vec<u8>>, AllocError> {
+fn numbers_of(alloc: Global, text: &str) -> Result<Option<Vec<u8>>, AllocError>
+    ensures octets { IfOk result (λ found. IfSome found (λ octets. IsOctets octets.items)) }
+    ensures numbers { IfOk result (λ found. MatchOption found (¬ IsOctets (chars text.now))
+        (λ octets. octets.items ≡ chars text.now)) }
+{
     let mut octets = Vec::with_capacity(alloc, text.len())?;
     for character in text.chars() {
         let code = character as u32;
@@ -39,38 +43,17 @@ fn numbers_of(alloc: Global, text: &str) -> Result<Option<Vec<u8>>, AllocError> 
     Ok(Some(octets))
 }
 
-/// Whether octets are the numbers of the characters of a text.
-fn are_numbers(alloc: Global, octets: &[u8], text: &str) -> Result<bool, AllocError>
-    ensures octets { IfOk result (λ are. are ≡ true → IsOctets octets.now) }
-    ensures text { IfOk result (λ are. are ≡ true → text.now ≡ encode_utf8_all octets.now) }
-{
-    let shown = octet_text(alloc, octets)?;
-    Ok(shown.as_str() == text)
-}
-
 /// The octets that are the numbers of the characters of a text. None are answered where a number is above 255.
-///
-/// That they are is seen from their text.
 pub(super) fn character_octets(alloc: Global, text: &str) -> Result<Option<Vec<u8>>, AllocError>
-    ensures octets { IfOk result (λ found. MatchOption found (Unit {0})
-        (λ octets. IsOctets octets.items)) }
-    ensures text { IfOk result (λ found. MatchOption found (Unit {0})
-        (λ octets. text.now ≡ encode_utf8_all octets.items)) }
+    ensures { IfOk result (Finds (λ octets. octets.items)
+        (λ octets. IsOctets octets × (text.now ≡ encode_utf8_all octets))) }
 {
-    let Some(octets) = numbers_of(alloc, text)? else {
-        return Ok(None);
-    };
-    if are_numbers(alloc, &octets, text)? {
-        Ok(Some(octets))
-    } else {
-        Ok(None)
-    }
+    numbers_of(alloc, text)
 }
 
 /// The octets of a text in UTF-16.
 fn bmp_octets(alloc: Global, text: &str) -> Result<Option<Vec<u8>>, AllocError>
-    ensures { IfOk result (λ found. MatchOption found (Unit {0})
-        (λ octets. DenotesText texts.Bmp text.now octets.items)) }
+    ensures { IfOk result (Finds (λ octets. octets.items) (DenotesText texts.Bmp text.now)) }
 {
     let octets = coded::<Utf16>(alloc, text)?;
     Ok(Some(octets))
@@ -78,8 +61,7 @@ fn bmp_octets(alloc: Global, text: &str) -> Result<Option<Vec<u8>>, AllocError>
 
 /// The octets of a text in UCS-4.
 fn universal_octets(alloc: Global, text: &str) -> Result<Option<Vec<u8>>, AllocError>
-    ensures { IfOk result (λ found. MatchOption found (Unit {0})
-        (λ octets. DenotesText texts.Universal text.now octets.items)) }
+    ensures { IfOk result (Finds (λ octets. octets.items) (DenotesText texts.Universal text.now)) }
 {
     let octets = coded::<Ucs4>(alloc, text)?;
     Ok(Some(octets))
@@ -91,8 +73,7 @@ pub(super) fn text_octets(
     kind: TextKind,
     text: &str,
 ) -> Result<Option<Vec<u8>>, AllocError>
-    ensures { IfOk result (λ found. MatchOption found (Unit {0})
-        (λ octets. DenotesText kind text.now octets.items)) }
+    ensures { IfOk result (Finds (λ octets. octets.items) (DenotesText kind text.now)) }
 {
     match kind {
         TextKind::Utf8 => {

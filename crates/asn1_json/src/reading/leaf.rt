@@ -1,6 +1,6 @@
 //! Values without parts, from JSON.
-ghost use Rattle.std.specs.Prelude.{ℤ, Bool, [], ◌≡◌, ◌<◌, ◌++◌, true, Some, IfOk, IfSome, MatchOption, MatchResult, OnOk, length};
-ghost use Rattle.x690.specs.Digits.{twos_complement_value};
+ghost use Rattle.std.specs.Prelude.{ℤ, Bool, [], ◌≡◌, ◌<◌, ◌++◌, true};
+ghost use Rattle.std.specs.Prelude.{false, Some, IfOk, IfSome, MatchResult, OnOk, length};
 ghost use Rattle.x690.specs.Strict.{header_octets};
 ghost use Rattle.std.specs.declared.vec.Vec.{Vec};
 ghost use Rattle.std.specs.declared.alloc.Global.{Global};
@@ -10,9 +10,9 @@ ghost use Rattle.asn1_schema.specs.declared.schema.Kind.TheVariants as kinds;
 ghost use Rattle.asn1_schema.specs.Sound.{is_sound};
 ghost use Rattle.asn1_schema.specs.Tape.{leaf_mark, mark, marks};
 ghost use Rattle.asn1_schema.specs.Values.{Leaf, Value as SpecValue, leaf};
-ghost use Rattle.asn1_json.specs.DenotedLeaves.{DenotesIdentifier, number_named};
+ghost use Rattle.asn1_json.specs.DenotedLeaves.{DenotesIdentifier};
 ghost use Rattle.asn1_json.specs.Made.{tape_of_value};
-ghost use Rattle.asn1_json.specs.Outcomes.{DenotesSimple, HasWord, IsElementItem, Makes, Reads};
+ghost use Rattle.asn1_json.specs.Outcomes.{DenotesSimple, HasWord, IsElementFound, Makes, Reads, ReadsLeaf};
 ghost use Rattle.asn1_json.specs.Types.{labels_at};
 ghost use Rattle.asn1_json.specs.declared.reading.trail.Fault.TheVariants as faults;
 
@@ -32,7 +32,7 @@ use asn1_schema::schema::{Kind, TextKind, TimeKind};
 use asn1_schema::tape::Item;
 use json::Value;
 use std::alloc::{AllocError, Global};
-use x690::signed::{signed_into, signed_number};
+use x690::signed::signed_into;
 
 /// What JSON is read by.
 #[derive(Debug, Clone, Copy)]
@@ -76,7 +76,7 @@ fn put(
     trail: &mut Trail,
 ) -> Result<(), Fault>
     requires { is_sound by.types.table.now ≡ true }
-    ensures { (l : Leaf) → mark item.entry ≡ leaf_mark l → Reads tape_of_value (λ v. v ≡ leaf l)
+    ensures { (l : Leaf) → mark item.entry ≡ leaf_mark l → Reads (λ v. v ≡ leaf l)
         (HasWord by.entry.types.table.now by.entry.depth of) made.old made.new result }
 {
     match judge(by, of, &[item], trail) {
@@ -97,8 +97,8 @@ fn read_boolean(
     trail: &mut Trail,
 ) -> Result<(), Fault>
     requires sound { is_sound by.types.table.now ≡ true }
-    ensures { OnOk result (Makes (DenotesSimple [] kinds.Boolean
-        (value_view value.now)) made.old made.new) }
+    ensures { ReadsLeaf by.entry of [] kinds.Boolean (value_view value.now)
+        made.old made.new result }
 {
     match value {
         Value::Bool(truth) => put(by, of, Item::Boolean(*truth), made, trail),
@@ -115,8 +115,8 @@ fn read_null(
     trail: &mut Trail,
 ) -> Result<(), Fault>
     requires sound { is_sound by.types.table.now ≡ true }
-    ensures { OnOk result (Makes (DenotesSimple [] kinds.Null
-        (value_view value.now)) made.old made.new) }
+    ensures { ReadsLeaf by.entry of [] kinds.Null (value_view value.now)
+        made.old made.new result }
 {
     match value {
         Value::Null => put(by, of, Item::Null, made, trail),
@@ -133,8 +133,8 @@ fn read_integer(
     trail: &mut Trail,
 ) -> Result<(), Fault>
     requires sound { is_sound by.types.table.now ≡ true }
-    ensures { OnOk result (Makes (DenotesSimple [] kinds.Integer
-        (value_view value.now)) made.old made.new) }
+    ensures { ReadsLeaf by.entry of [] kinds.Integer (value_view value.now)
+        made.old made.new result }
 {
     let Value::Number(text) = value else {
         return Err(trail.refused(of, Reason::Integer));
@@ -142,20 +142,6 @@ fn read_integer(
     match integer_content(by.alloc, text)? {
         Some(content) => put(by, of, Item::Integer(&content), made, trail),
         None => Err(trail.refused(of, Reason::Integer)),
-    }
-}
-
-/// Whether contents octets say the number that a name stands for.
-fn are_named(types: Types<'_, '_>, at: usize, name: &str, octets: &[u8]) -> bool
-    ensures { result ≡ true → number_named (labels_at types.entry.names.now (Some at)) name.now ≡
-        Some (twos_complement_value octets.now) }
-{
-    let Some(number) = types.number(at, name) else {
-        return false;
-    };
-    match signed_number(octets, 16) {
-        Some(said) => said == number,
-        None => false,
     }
 }
 
@@ -169,20 +155,17 @@ fn read_name(
     trail: &mut Trail,
 ) -> Result<(), Fault>
     requires sound { is_sound by.types.table.now ≡ true }
-    ensures { (numbers : Vec ℤ Global) (extensible : Bool) → OnOk result (Makes (DenotesSimple
+    ensures { (numbers : Vec ℤ Global) (extensible : Bool) → ReadsLeaf by.entry of
         (labels_at by.entry.types.names.now (Some at)) (kinds.Enumerated numbers extensible)
-        (string name.now)) made.old made.new) }
+        (string name.now)
+        made.old made.new result }
 {
     let Some(number) = by.types.number(at, name) else {
         return Err(trail.refused(of, Reason::Listed));
     };
     let mut content = [0; 17];
     let start = signed_into(number, &mut content);
-    let octets = &content[start..];
-    if !are_named(by.types, at, name, octets) {
-        return Err(trail.refused(of, Reason::Listed));
-    }
-    put(by, of, Item::Enumerated(octets), made, trail)
+    put(by, of, Item::Enumerated(&content[start..]), made, trail)
 }
 
 /// A listed number: by its name, or as a number.
@@ -195,9 +178,10 @@ fn read_listed(
     trail: &mut Trail,
 ) -> Result<(), Fault>
     requires sound { is_sound by.types.table.now ≡ true }
-    ensures { (numbers : Vec ℤ Global) (extensible : Bool) → OnOk result (Makes (DenotesSimple
+    ensures { (numbers : Vec ℤ Global) (extensible : Bool) → ReadsLeaf by.entry of
         (labels_at by.entry.types.names.now (Some at)) (kinds.Enumerated numbers extensible)
-        (value_view value.now)) made.old made.new) }
+        (value_view value.now)
+        made.old made.new result }
 {
     match value {
         Value::String(name) => read_name(by, of, at, name, made, trail),
@@ -218,8 +202,8 @@ fn read_bits(
     trail: &mut Trail,
 ) -> Result<(), Fault>
     requires sound { is_sound by.types.table.now ≡ true }
-    ensures { (named : Bool) → OnOk result (Makes (DenotesSimple [] (kinds.Bits named)
-        (value_view value.now)) made.old made.new) }
+    ensures { (named : Bool) → ReadsLeaf by.entry of [] (kinds.Bits named) (value_view value.now)
+        made.old made.new result }
 {
     let Value::Object(members) = value else {
         return Err(trail.refused(of, Reason::Bits));
@@ -234,14 +218,17 @@ fn read_bits(
 fn read_octets(
     by: By<'_, '_>,
     of: usize,
-    text: &str,
+    value: &Value<'_>,
     made: &mut OwnedTape,
     trail: &mut Trail,
 ) -> Result<(), Fault>
     requires sound { is_sound by.types.table.now ≡ true }
-    ensures { OnOk result (Makes (DenotesSimple [] kinds.Octets
-        (string text.now)) made.old made.new) }
+    ensures { ReadsLeaf by.entry of [] kinds.Octets (value_view value.now)
+        made.old made.new result }
 {
+    let Value::String(text) = value else {
+        return Err(trail.refused(of, Reason::Octets));
+    };
     match hexadecimal(by.alloc, text)? {
         Some(octets) => put(by, of, Item::Octets(&octets), made, trail),
         None => Err(trail.refused(of, Reason::Octets)),
@@ -250,7 +237,7 @@ fn read_octets(
 
 /// The contents octets of an identifier: by its arcs, or in hexadecimal where these are too large to be shown.
 fn content_of(alloc: Global, relative: bool, text: &str) -> Result<Option<Vec<u8>>, AllocError>
-    ensures { IfOk result (λ found. MatchOption found (Unit {0})
+    ensures { IfOk result (λ found. IfSome found
         (λ content. DenotesIdentifier relative text.now content.items)) }
 {
     if has_arcs(relative, text) {
@@ -264,14 +251,17 @@ fn read_identifier(
     by: By<'_, '_>,
     of: usize,
     relative: bool,
-    text: &str,
+    value: &Value<'_>,
     made: &mut OwnedTape,
     trail: &mut Trail,
 ) -> Result<(), Fault>
     requires sound { is_sound by.types.table.now ≡ true }
     ensures { OnOk result (Makes (DenotesSimple [] (kinds.Identifier relative)
-        (string text.now)) made.old made.new) }
+        (value_view value.now)) made.old made.new) }
 {
+    let Value::String(text) = value else {
+        return Err(trail.refused(of, Reason::Identifier));
+    };
     match content_of(by.alloc, relative, text)? {
         Some(content) => put(by, of, Item::Identifier(relative, &content), made, trail),
         None => Err(trail.refused(of, Reason::Identifier)),
@@ -283,14 +273,17 @@ fn read_text(
     by: By<'_, '_>,
     of: usize,
     kind: TextKind,
-    text: &str,
+    value: &Value<'_>,
     made: &mut OwnedTape,
     trail: &mut Trail,
 ) -> Result<(), Fault>
     requires sound { is_sound by.types.table.now ≡ true }
-    ensures { OnOk result (Makes (DenotesSimple [] (kinds.Text kind)
-        (string text.now)) made.old made.new) }
+    ensures { ReadsLeaf by.entry of [] (kinds.Text kind) (value_view value.now)
+        made.old made.new result }
 {
+    let Value::String(text) = value else {
+        return Err(trail.refused(of, Reason::Text));
+    };
     match text_octets(by.alloc, kind, text)? {
         Some(octets) => put(by, of, Item::Text(kind, &octets), made, trail),
         None => Err(trail.refused(of, Reason::Text)),
@@ -302,14 +295,17 @@ fn read_time(
     by: By<'_, '_>,
     of: usize,
     kind: TimeKind,
-    text: &str,
+    value: &Value<'_>,
     made: &mut OwnedTape,
     trail: &mut Trail,
 ) -> Result<(), Fault>
     requires sound { is_sound by.types.table.now ≡ true }
-    ensures { OnOk result (Makes (DenotesSimple [] (kinds.Time kind)
-        (string text.now)) made.old made.new) }
+    ensures { ReadsLeaf by.entry of [] (kinds.Time kind) (value_view value.now)
+        made.old made.new result }
 {
+    let Value::String(text) = value else {
+        return Err(trail.refused(of, Reason::Time));
+    };
     match character_octets(by.alloc, text)? {
         Some(octets) => put(by, of, Item::Time(kind, &octets), made, trail),
         None => Err(trail.refused(of, Reason::Value)),
@@ -328,6 +324,8 @@ fn is_element(
     ensures class { IfOk result (λ is. is ≡ true → class < 4) }
     ensures octets { IfOk result (λ is. is ≡ true → octets.now ≡
         header_octets class constructed number (length content.now) ++ content.now) }
+    ensures other { IfOk result (λ is. is ≡ false → class < 4 → ¬ (octets.now ≡
+        header_octets class constructed number (length content.now) ++ content.now)) }
 {
     if class >= 4 {
         return Ok(false);
@@ -340,7 +338,7 @@ fn is_element(
 ///
 /// That they are is seen from its strict encoding.
 fn element_of(alloc: Global, octets: &[u8]) -> Result<Option<Item<'_>>, AllocError>
-    ensures { IfOk result (λ found. IfSome found (IsElementItem octets.now)) }
+    ensures { IfOk result (IsElementFound octets.now) }
 {
     let Ok((_, (header, content))) = element_by_der(octets) else {
         return Ok(None);
@@ -359,58 +357,23 @@ fn element_of(alloc: Global, octets: &[u8]) -> Result<Option<Item<'_>>, AllocErr
 fn read_element(
     by: By<'_, '_>,
     of: usize,
-    text: &str,
+    value: &Value<'_>,
     made: &mut OwnedTape,
     trail: &mut Trail,
 ) -> Result<(), Fault>
     requires sound { is_sound by.types.table.now ≡ true }
-    ensures { OnOk result (Makes (DenotesSimple [] kinds.Any (string text.now))
-        made.old made.new) }
+    ensures { ReadsLeaf by.entry of [] kinds.Any (value_view value.now)
+        made.old made.new result }
 {
+    let Value::String(text) = value else {
+        return Err(trail.refused(of, Reason::Element));
+    };
     let Some(octets) = hexadecimal(by.alloc, text)? else {
         return Err(trail.refused(of, Reason::Element));
     };
     match element_of(by.alloc, &octets)? {
         Some(item) => put(by, of, item, made, trail),
         None => Err(trail.refused(of, Reason::Element)),
-    }
-}
-
-/// Why JSON is refused that is no string.
-fn no_string(kind: &Kind) -> Reason {
-    match kind {
-        Kind::Octets => Reason::Octets,
-        Kind::Identifier(_) => Reason::Identifier,
-        Kind::Text(_) => Reason::Text,
-        Kind::Time(_) => Reason::Time,
-        Kind::Any => Reason::Element,
-        _ => Reason::MissingType,
-    }
-}
-
-/// A value that is shown as a string.
-fn read_string(
-    by: By<'_, '_>,
-    of: usize,
-    kind: &Kind,
-    value: &Value<'_>,
-    made: &mut OwnedTape,
-    trail: &mut Trail,
-) -> Result<(), Fault>
-    requires sound { is_sound by.types.table.now ≡ true }
-    ensures { OnOk result (Makes (DenotesSimple [] kind.now (value_view value.now))
-        made.old made.new) }
-{
-    let Value::String(text) = value else {
-        return Err(trail.refused(of, no_string(kind)));
-    };
-    match kind {
-        Kind::Octets => read_octets(by, of, text, made, trail),
-        Kind::Identifier(relative) => read_identifier(by, of, *relative, text, made, trail),
-        Kind::Text(kind) => read_text(by, of, *kind, text, made, trail),
-        Kind::Time(kind) => read_time(by, of, *kind, text, made, trail),
-        Kind::Any => read_element(by, of, text, made, trail),
-        _ => Err(trail.refused(of, Reason::MissingType)),
     }
 }
 
@@ -435,6 +398,11 @@ pub(super) fn read_leaf(
         Kind::Integer => read_integer(by, of, value, made, trail),
         Kind::Enumerated(_, _) => read_listed(by, of, at, value, made, trail),
         Kind::Bits(_) => read_bits(by, of, value, made, trail),
-        _ => read_string(by, of, kind, value, made, trail),
+        Kind::Octets => read_octets(by, of, value, made, trail),
+        Kind::Identifier(relative) => read_identifier(by, of, *relative, value, made, trail),
+        Kind::Text(kind) => read_text(by, of, *kind, value, made, trail),
+        Kind::Time(kind) => read_time(by, of, *kind, value, made, trail),
+        Kind::Any => read_element(by, of, value, made, trail),
+        _ => Err(trail.refused(of, Reason::MissingType)),
     }
 }

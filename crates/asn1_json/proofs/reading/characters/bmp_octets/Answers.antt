@@ -1,5 +1,7 @@
-use Rattle.asn1_json.proofs.Coded.{bmp_text}
+use Rattle.asn1_json.proofs.Coded.{bmp_text, bmp_only}
 use Rattle.asn1_json.proofs.reading.characters.bmp_octets.Goals as goal
 
 pub returns : goal.returns
-returns c = bmp_text c.args.text.now c.in_ok-octets.octets.items c.utf8.text c.in_ok-octets.ensures
+returns c =
+    let o = c.in_ok-octets.octets.items in
+    (bmp_text c.args.text.now o c.utf8.text c.in_ok-octets.ensures, bmp_only c.args.text.now o c.utf8.text c.in_ok-octets.ensures)

@@ -1,20 +1,17 @@
-use Rattle.std.proofs.Common.{◌≡◌, ◌∙◌, ap, sym, refl, subst, ℕ, ℤ, Bool, ◌*◌, ◌-◌, List, [], length, take, Option, Some, MatchOption, Ok, encode_utf8_all}
-use Rattle.std.specs.Prelude.{IfSome}
-use Rattle.x690.specs.Digits.{twos_complement_value}
-use Rattle.x690.specs.Octets.{IsOctets}
-use Rattle.json.specs.Json.{Json, object, string}
-use Rattle.json.specs.Value.{members_view, value_view}
-use Rattle.asn1_words.specs.Words.{integer_text}
+use Rattle.std.proofs.Common.{◌∙◌, ap, refl, []}
+use Rattle.json.specs.Value.{value_view}
 use Rattle.asn1_schema.specs.declared.schema.Kind.TheVariants as kinds
-use Rattle.asn1_schema.specs.Grammar.{bits_in}
-use Rattle.asn1_schema.specs.Values.{boolean, null, integer, enumerated, bits, octets, identifier, text, time, any}
-use Rattle.asn1_json.specs.DenotedLeaves.{DenotesBits, DenotesIdentifier, DenotesInteger, DenotesListed, DenotesText, IsHexadecimal}
-use Rattle.asn1_json.specs.Types.{labels_at}
-use Rattle.asn1_json.proofs.Views.{null_view, truth_view, number_view}
-use Rattle.json.proofs.Trees.{view-Object}
-use Rattle.asn1_json.proofs.MadeLeaves.{put_leaf, some_is}
+use Rattle.asn1_schema.specs.Values.{Leaf}
+use Rattle.asn1_schema.specs.Values as values
+use Rattle.asn1_json.proofs.Views.{null_view}
+use Rattle.asn1_json.proofs.MadeLeaves.{put_leaf, no_leaf}
+use Rattle.asn1_json.proofs.Unread.{no_null}
 use Rattle.asn1_json.proofs.reading.leaf.read_null.Goals as goal
 
 pub returns-in-Null : goal.returns-in-Null
 returns-in-Null c =
-    put_leaf null [] kinds.Null (value_view c.args.value.now) _ _ _ c.put.result (c.put.ensures null refl) (ap value_view c.in-Null.is ∙ null_view _, refl)
+    put_leaf values.null [] kinds.Null (value_view c.args.value.now) _ _ _ c.put.result (c.put.ensures values.null refl)
+    (ap value_view c.in-Null.is ∙ null_view _, refl) (λ m d has. d.1)
+
+pub returns-in_default : goal.returns-in_default
+returns-in_default c = λ refused. no_leaf [] kinds.Null (value_view c.args.value.now) _ (λ m d. no_null c.args.value.now c.in_default.not-Null d.0)

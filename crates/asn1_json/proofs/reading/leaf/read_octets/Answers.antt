@@ -1,21 +1,31 @@
-use Rattle.std.proofs.Common.{◌≡◌, ◌∙◌, ap, sym, refl, subst, ℕ, ℤ, Bool, ◌*◌, ◌-◌, List, [], length, take, Option, Some, MatchOption, Ok, encode_utf8_all}
-use Rattle.std.specs.Prelude.{IfSome}
-use Rattle.x690.specs.Digits.{twos_complement_value}
-use Rattle.x690.specs.Octets.{IsOctets}
-use Rattle.json.specs.Json.{Json, object, string}
-use Rattle.json.specs.Value.{members_view, value_view}
-use Rattle.asn1_words.specs.Words.{integer_text}
+use Rattle.std.proofs.Common.{◌∙◌, ap, sym, refl, subst, []}
+use Rattle.json.specs.Value.{value_view}
 use Rattle.asn1_schema.specs.declared.schema.Kind.TheVariants as kinds
-use Rattle.asn1_schema.specs.Grammar.{bits_in}
-use Rattle.asn1_schema.specs.Values.{boolean, null, integer, enumerated, bits, octets, identifier, text, time, any}
-use Rattle.asn1_json.specs.DenotedLeaves.{DenotesBits, DenotesIdentifier, DenotesInteger, DenotesListed, DenotesText, IsHexadecimal}
-use Rattle.asn1_json.specs.Types.{labels_at}
-use Rattle.asn1_json.proofs.MadeLeaves.{put_leaf, some_is}
+use Rattle.asn1_schema.specs.Values.{Leaf}
+use Rattle.asn1_schema.specs.Values as values
+use Rattle.asn1_json.specs.DenotedLeaves.{IsHexadecimal}
+use Rattle.asn1_json.proofs.Views.{string_view}
+use Rattle.asn1_json.proofs.MadeLeaves.{put_leaf, no_leaf, some_is, none_is, one_said, none_said}
+use Rattle.asn1_json.proofs.Unread.{no_string}
 use Rattle.asn1_json.proofs.reading.leaf.read_octets.Goals as goal
 
 pub returns-in-Some : goal.returns-in-Some
 returns-in-Some c =
     let o = c.deref.result.now in
+    let s = c.in-String.text.now in
+    let is = ap value_view c.in-String.is ∙ string_view _ c.in-String.text in
     let said = some_is _ _ c.in_ok-octets.field-0 c.in-Some.octets c.in-Some.is c.in_ok-octets.ensures in
-    put_leaf (octets o) [] kinds.Octets (string c.args.text.now) _ _ _ c.put.result (c.put.ensures (octets o) refl)
-    (c.args.text.now, o, refl, subst (IsHexadecimal c.args.text.now) (sym c.deref.ensures.value) said, refl)
+    let same = sym c.deref.ensures.value in
+    put_leaf (values.octets o) [] kinds.Octets (value_view c.args.value.now) _ _ _ c.put.result (c.put.ensures (values.octets o) refl)
+    (s, o, is, subst (IsHexadecimal s) same said.0, refl)
+    (λ m d has. one_said (IsHexadecimal) s (value_view c.args.value.now) is values.octets _ o same said.1 m d)
+
+pub returns-in-None : goal.returns-in-None
+returns-in-None c =
+    let is = ap value_view c.in-String.is ∙ string_view _ c.in-String.text in
+    let none = none_is _ _ c.in_ok-octets.field-0 c.in-None.is c.in_ok-octets.ensures in
+    λ refused. no_leaf [] kinds.Octets (value_view c.args.value.now) _ (λ m d.
+    none_said (IsHexadecimal) c.in-String.text.now (value_view c.args.value.now) is none d.0 d.1 d.2 d.3)
+
+pub returns-in_default : goal.returns-in_default
+returns-in_default c = λ refused. no_leaf [] kinds.Octets (value_view c.args.value.now) _ (λ m d. no_string c.args.value.now c.in_default.not-String d.0 d.2)
