@@ -156,7 +156,10 @@ def functions_in(text):
     lines, block, block_first = text.split("\n"), None, None
     for number, line in enumerate(lines):
         words = line.strip()
-        if words and indent_of(line) == 0 and not words.startswith(("//", "#", "}", "{", ")", "where")):
+        if block and line.startswith(">"):
+            # (the first line of a long impl goes on behind the arguments of its trait)
+            block += words
+        elif words and indent_of(line) == 0 and not words.startswith(("//", "#", "}", "{", ")", "where")):
             block, block_first = (words, number) if BLOCK.match(words) else (None, None)
         found = FUNCTION.match(words)
         if found and indent_of(line) == (4 if block else 0):
