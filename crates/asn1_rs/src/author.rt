@@ -16,6 +16,7 @@
 // kinds, and the readers and writers that follow from them
 pub use crate::kinds::assert_valid::{AlwaysDerBy, DerElement};
 pub use crate::kinds::collections::{CollectionKind, Once, Repeats, SequenceKind, SetKind};
+pub use crate::kinds::decoding::DecodesBy;
 pub use crate::kinds::fields::{Fields, FieldsKind};
 pub use crate::kinds::leaf::{ConvertsLeaf, LeafType};
 pub use crate::kinds::reading::{
