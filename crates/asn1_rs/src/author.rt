@@ -67,6 +67,7 @@ pub use crate::choices::arms::{
     ArmNumbers, Arms, Never, Or, OrTagged, OrUniversal, ReadsArms, TakesArms,
 };
 pub use crate::choices::checks::{ChecksArms, check_arms};
+pub use crate::choices::in_hand::{DecodesArms, DecodesChoice, choice_in_hand};
 pub use crate::choices::nested::OrChoice;
 pub use crate::choices::taken::TakesWhole;
 pub use crate::choices::taken_arm::{OrTaken, TakenArm};

@@ -7,7 +7,7 @@ use Rattle.asn1_headers.specs.declared.header.Header.{Header}
 use Rattle.asn1_headers.specs.Header.{is_same_identifier}
 use Rattle.asn1_rs.specs.declared.asn1_types.any.Any.{Any}
 use Rattle.asn1_rs.specs.declared.asn1_types.any.kept.KeptAny.{KeptAny}
-use Rattle.asn1_rs.specs.Any.Value.{any_element}
+use Rattle.asn1_rs.specs.Any.Value.{ElementValue, any_element, element_of}
 use Rattle.asn1_rs.specs.Any.Writing.{element_writing}
 use Rattle.asn1_rs.specs.Copies.{IsCopyOfHeader}
 use Rattle.asn1_rs.specs.Kinds.{ElementGrammar, holding}
@@ -20,6 +20,10 @@ kept_content a = cow_slice_items a.content
 -- the element that it is, with contents octets that are borrowed from no place
 abbrev pub as_element : KeptAny → Any
 as_element a = record { header = a.header; content = record { ref_ptr = (0, 0); now = kept_content a } }
+
+-- what it says, however its length was written
+abbrev pub kept_value : KeptAny → ElementValue
+kept_value a = element_of (as_element a)
 
 -- its values are those of elements of any type
 abbrev pub kept_element : ElementGrammar KeptAny

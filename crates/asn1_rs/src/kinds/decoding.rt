@@ -14,8 +14,8 @@ use crate::traits::{CheckDerConstraints, FromAny, FromDer};
 use asn1_headers::error::Error;
 use std::alloc::Global;
 
-/// A type that an element in hand is read as by DER, by this reader. Each reader has it but that of choices.
-// A choice reads the octets of the element again, by the reader of an arm, and an element has no octets.
+/// A type that an element in hand is read as by DER, by this reader.
+// A trait of its own, since an element in hand has no octets for `from_der`.
 pub trait DecodesBy<'a, R>: FromDer<'a, Error> {
     /// What reading the element may answer.
     ghost decode_gives: { Any → Result Self Error → Type 0 };

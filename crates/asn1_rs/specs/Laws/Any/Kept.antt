@@ -5,8 +5,9 @@ use Rattle.std.specs.Cmp.{unsigned_Decides}
 use Rattle.std.specs.Cmp.Lexicographic.{pointwise_decides}
 use Rattle.asn1_rs.specs.declared.asn1_types.any.kept.KeptAny.{KeptAny}
 use Rattle.asn1_rs.specs.Any.{IsTheElement}
-use Rattle.asn1_rs.specs.Any.Kept.{as_element, kept_content, kept_element, kept_element_writing, same_elements}
-use Rattle.asn1_rs.specs.Any.Value.{any_element, element_of}
+use Rattle.asn1_rs.specs.Any.Kept.{as_element, kept_content, kept_element, kept_element_writing, kept_value}
+use Rattle.asn1_rs.specs.Any.Kept.{same_elements}
+use Rattle.asn1_rs.specs.Any.Value.{any_element}
 use Rattle.asn1_rs.specs.Any.Writing.{element_writing}
 use Rattle.asn1_rs.specs.Grammar.Item.{IsLawfulWriting}
 use Rattle.asn1_rs.specs.Kinds.{HoldingGives, IsExactConversion, IsLawfulElement, item_grammar}
@@ -30,6 +31,6 @@ kept_element_lawful_writing =
 
 -- Two are equal exactly where they say the same.
 pub kept_elements_same : (x y : KeptAny) →
-    IsTrue (same_elements x y) ↔ (element_of (as_element x) ≡ element_of (as_element y))
+    IsTrue (same_elements x y) ↔ (kept_value x ≡ kept_value y)
 kept_elements_same x y = same_elements_say x.header y.header (kept_content x) (kept_content y) _
     (pointwise_decides unsigned_Decides (kept_content x) (kept_content y))

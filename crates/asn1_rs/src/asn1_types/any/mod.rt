@@ -23,6 +23,7 @@ ghost use Rattle.asn1_headers.specs.Ber.{BerContentGives, max_depth};
 ghost use Rattle.asn1_rs.specs.Any.Decoded.{IsReadAs, IsWordInHand};
 ghost use Rattle.asn1_rs.specs.Any.Value.{any_element};
 ghost use Rattle.asn1_rs.specs.Grammar.Item.{ber_words};
+ghost use Rattle.asn1_rs.specs.Traits.{BerGives};
 ghost use Rattle.asn1_rs.specs.Laws.AssertValid.{element_each_der};
 ghost use Rattle.asn1_rs.specs.Laws.Any.Value.{element_lawful, element_converts, element_checks};
 ghost use Rattle.asn1_headers.specs.declared.class.Class.TheVariants as classes;
@@ -36,7 +37,7 @@ use crate::kinds::decoding::DecodesBy;
 use crate::kinds::reading::{HasReader, LawfulCheckBy};
 use crate::kinds::{ElementKind, HasKind, LawfulConversion, LawfulElement};
 use crate::laws::assert_valid::assert_octets_valid;
-use crate::laws::{LawfulBer, LawfulDer};
+use crate::laws::{LawfulBody, LawfulDer};
 use crate::traits::{CheckDerConstraints, DerAutoDerive, DynTagged, FromAny, FromBer, FromDer};
 use asn1_headers::class::Class;
 use asn1_headers::error::{Err, Error, ParseResult};
@@ -177,12 +178,11 @@ impl<'a> Any<'a> {
 
     /// The value that the element is by BER: as [`FromBer::from_ber`] reads the octets that the element was read from,
     /// with its refusals. It is the conversion of the element.
-    pub fn decode_ber<T>(self, alloc: Global) -> Result<T, Error>
-    where
-        T: FromAny<'a, Error = Error> + LawfulBer<'a, Error>,
+    pub fn decode_ber<T: LawfulBody<'a, Error>>(self, alloc: Global) -> Result<T, Error>
         ensures exact { IsWordInHand (IsElement max_depth) (ber_words T.grammar) T.grammar.value
             T.grammar.allocates self.entry result }
-        ensures gives { IsReadAs (IsElement max_depth) T.ber_gives self.entry result }
+        ensures gives { IsReadAs (IsElement max_depth) (BerGives T.any_gives (λ e f. f ≡ e))
+            self.entry result }
         ensures by_hand { T.any_gives self.entry result }
     {
         T::try_from_any(alloc, self)
