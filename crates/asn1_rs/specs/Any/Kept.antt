@@ -1,6 +1,5 @@
 -- Elements of any type whose octets are borrowed or owned.
 use Rattle.std.specs.Prelude.{◌≡◌, ◌&&◌, ℕ, Bool, List, nat_eq}
-use Rattle.std.specs.Borrow.{Bor}
 use Rattle.std.specs.Cmp.Lexicographic.{pointwise}
 use Rattle.std.specs.Cow.{cow_slice_items}
 use Rattle.asn1_headers.specs.declared.header.Header.{Header}

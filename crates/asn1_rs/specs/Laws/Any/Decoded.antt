@@ -5,7 +5,7 @@ use Rattle.x690.specs.Octets.{IsOctets}
 use Rattle.x690.specs.Elements.{Parts, IsDerElement}
 use Rattle.x690.specs.Faults.{Fault}
 use Rattle.x690.specs.Nested.{IsElement, ElementFault}
-use Rattle.asn1_headers.specs.Answers.{Exactly, Front, TellsMemory}
+use Rattle.asn1_headers.specs.Answers.{Exactly, TellsMemory}
 use Rattle.asn1_headers.specs.Ber.{EndsWithin, max_depth}
 use Rattle.asn1_headers.specs.Header.Reading.{ber_refusal, ber_violation}
 use Rattle.asn1_headers.specs.declared.error.Err.{Err as Refusal}
@@ -13,7 +13,8 @@ use Rattle.asn1_headers.specs.declared.error.Err.TheVariants.{Error as refused}
 use Rattle.asn1_headers.specs.declared.error.Error.{Error}
 use Rattle.asn1_rs.specs.declared.asn1_types.any.Any.{Any}
 use Rattle.asn1_rs.specs.Any.{parts_of}
-use Rattle.asn1_rs.specs.Any.Decoded.{CheckedThenConverted, DecodesExplicit, IsFront, IsReadAs, IsWordInHand, TakesFront}
+use Rattle.asn1_rs.specs.Any.Decoded.{CheckedThenConverted, DecodesExplicit, IsFront, IsReadAs, IsWordInHand}
+use Rattle.asn1_rs.specs.Any.Decoded.{TakesFront}
 use Rattle.asn1_rs.specs.Checks.{CheckGives}
 use Rattle.asn1_rs.specs.Grammar.{NoCheck, TakesBody}
 use Rattle.asn1_rs.specs.Grammar.Item.{ItemGrammar, ber_words}

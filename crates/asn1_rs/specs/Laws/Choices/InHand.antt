@@ -1,14 +1,12 @@
 -- What an element in hand is read as by the arms of a choice, and by the choice, is what they read.
-use Rattle.std.proofs.Common.{◌≡◌, ◌∙◌, ap, inl, inr, refl, ℕ, Bool, true, false, List}
+use Rattle.std.proofs.Common.{ap, inl, inr, refl, ℕ, Bool, List}
 use Rattle.std.specs.Prelude.{Result, Ok, Err}
-use Rattle.x690.specs.Elements.{Parts, IsDerElement}
+use Rattle.x690.specs.Elements.{IsDerElement}
 use Rattle.x690.specs.Identifiers.{Identifier}
 use Rattle.asn1_headers.specs.declared.error.Err.{Err as Refusal}
 use Rattle.asn1_headers.specs.declared.error.Err.TheVariants.{Error as refused}
 use Rattle.asn1_headers.specs.declared.error.Error.{Error}
-use Rattle.asn1_headers.specs.declared.error.Error.TheVariants.{UnexpectedTag}
 use Rattle.asn1_rs.specs.declared.asn1_types.any.Any.{Any}
-use Rattle.asn1_rs.specs.declared.choices.arms.Never.{Never}
 use Rattle.asn1_rs.specs.declared.choices.arms.Or.{Or}
 use Rattle.asn1_rs.specs.declared.choices.arms.Or.TheVariants as arm
 use Rattle.asn1_rs.specs.declared.choices.nested.OrChoice.{OrChoice}
