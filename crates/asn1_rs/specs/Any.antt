@@ -1,4 +1,6 @@
 -- Elements in hand, and what reading one may answer.
+pub mod Decoded
+pub mod Kept
 pub mod Text
 pub mod Value
 pub mod Writing

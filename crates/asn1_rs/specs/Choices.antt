@@ -1,6 +1,7 @@
 -- Choices of types that are told apart by the class and the tag number of their elements (X.680 29).
 pub mod Data
 pub mod Heap
+pub mod InHand
 pub mod Nested
 pub mod Taken
 pub mod TaggedStructs

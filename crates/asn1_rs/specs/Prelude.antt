@@ -12,7 +12,9 @@ pub use Rattle.asn1_headers.specs.Writer.{MayRefuse, IsMemoryOrLength, Wrote}
 pub use Rattle.asn1_headers.specs.declared.error.Error.{Error}
 pub use Rattle.asn1_headers.specs.declared.error.Error.TheVariants.{OutOfMemory}
 pub use Rattle.asn1_headers.specs.declared.error.SerializeError.{SerializeError}
-pub use Rattle.asn1_rs.specs.Any.{parts_of}
+pub use Rattle.asn1_rs.specs.Any.{BeginsWithAny, parts_of}
+pub use Rattle.asn1_rs.specs.Any.Decoded.{IsFront, IsReadAs, IsWordInHand}
+pub use Rattle.asn1_rs.specs.Any.Kept.{as_element, kept_value}
 pub use Rattle.asn1_rs.specs.Callers.{ReadsByDer, ReadsByBer, WritesStrict}
 pub use Rattle.asn1_rs.specs.Choices.{ChoiceGives, ChoiceReads, has_a_class, has_a_tag}
 pub use Rattle.asn1_rs.specs.Choices.Data.{ChecksOf, choice_numbers, choice_of, choice_type, numbers_of_choice}

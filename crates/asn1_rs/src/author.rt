@@ -16,6 +16,7 @@
 // kinds, and the readers and writers that follow from them
 pub use crate::kinds::assert_valid::{AlwaysDerBy, DerElement};
 pub use crate::kinds::collections::{CollectionKind, Once, Repeats, SequenceKind, SetKind};
+pub use crate::kinds::decoding::DecodesBy;
 pub use crate::kinds::fields::{Fields, FieldsKind};
 pub use crate::kinds::leaf::{ConvertsLeaf, LeafType};
 pub use crate::kinds::reading::{
@@ -66,6 +67,7 @@ pub use crate::choices::arms::{
     ArmNumbers, Arms, Never, Or, OrTagged, OrUniversal, ReadsArms, TakesArms,
 };
 pub use crate::choices::checks::{ChecksArms, check_arms};
+pub use crate::choices::in_hand::{DecodesArms, DecodesChoice, choice_in_hand};
 pub use crate::choices::nested::OrChoice;
 pub use crate::choices::taken::TakesWhole;
 pub use crate::choices::taken_arm::{OrTaken, TakenArm};

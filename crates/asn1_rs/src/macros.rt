@@ -27,6 +27,33 @@ macro_rules! read_fields {
     };
 }
 
+/// A row of references to these fields: nested pairs, with `()` at the end.
+#[macro_export]
+macro_rules! lent_row {
+    ($x:expr =>) => {
+        ()
+    };
+    ($x:expr => $first:ident $(, $rest:ident)*) => {
+        (&$x.$first, $crate::lent_row!($x => $($rest),*))
+    };
+}
+
+/// The body of `to_static`: the copy of a struct, field by field.
+///
+///     copy_fields!(self, alloc => Measurement { place, value, error })
+#[macro_export]
+macro_rules! copy_fields {
+    ($x:expr, $alloc:expr => $made:ident { $($field:ident),+ $(,)? }) => {
+        match $crate::ToStatic::to_static(&$crate::lent_row!($x => $($field),+), $alloc) {
+            Ok(row) => {
+                let $crate::row!($($field),+) = row;
+                Ok($made { $($field),+ })
+            }
+            Err(e) => Err(e),
+        }
+    };
+}
+
 /// The body of `put_row`.
 ///
 ///     put_fields!(self, fields => place, value, error)

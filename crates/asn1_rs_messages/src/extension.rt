@@ -11,8 +11,8 @@ use asn1_rs::author::{
 use asn1_rs::laws::Grammar;
 use asn1_rs::{
     BerParser, DefaultFalse, Defaulted, DerParser, Error, OctetString, Oid, ParseResult,
-    SerializeResult, ToDer, ToStatic, assert_fields_valid, put_fields, read_ber, read_der,
-    read_fields, strict_vec,
+    SerializeResult, ToDer, ToStatic, assert_fields_valid, copy_fields, put_fields, read_ber,
+    read_der, read_fields, strict_vec,
 };
 use std::alloc::Global;
 
@@ -79,17 +79,7 @@ impl<'a> ToStatic for Extension<'a> {
         ⟦<ExtensionRow<'static> as ToStatic>⟧.copies };
 
     fn to_static(&self, alloc: Global) -> Result<Extension<'static>, Error> {
-        match (&self.id, (&self.critical, (&self.value, ()))).to_static(alloc) {
-            Ok(row) => {
-                let (id, (critical, (value, ()))) = row;
-                Ok(Extension {
-                    id,
-                    critical,
-                    value,
-                })
-            }
-            Err(e) => Err(e),
-        }
+        copy_fields!(self, alloc => Extension { id, critical, value })
     }
 }
 

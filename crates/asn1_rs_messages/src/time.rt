@@ -5,9 +5,10 @@ ghost use Rattle.asn1_rs.specs.declared.choices.arms.Or.TheVariants as arm;
 ghost use Rattle.asn1_rs_messages.specs.declared.time.Time.TheVariants as times;
 
 use asn1_rs::author::{
-    ArmNumbers, Arms, ChecksChoice, ChoiceKind, ChoiceReader, HasKind, HasReader, LawfulChoice,
-    LawfulType, Never, OfArms, Or, OrUniversal, ReadsArms, ReadsChoice, ReadsChoiceByBer,
-    TakesArms, ToldByNumber, UsesArm, check_element, choice_by_der, choice_of_element,
+    ArmNumbers, Arms, ChecksChoice, ChoiceKind, ChoiceReader, DecodesChoice, HasKind, HasReader,
+    LawfulChoice, LawfulType, Never, OfArms, Or, OrUniversal, ReadsArms, ReadsChoice,
+    ReadsChoiceByBer, TakesArms, ToldByNumber, UsesArm, check_element, choice_by_der,
+    choice_in_hand, choice_of_element,
 };
 use asn1_rs::laws::Grammar;
 use asn1_rs::{
@@ -82,6 +83,12 @@ impl<'a> ReadsChoice<'a> for Time {
 
     fn read_choice(alloc: Global, octets: &'a [u8]) -> ParseResult<'a, Time, Error> {
         choice_by_der(alloc, octets)
+    }
+}
+
+impl<'a> DecodesChoice<'a> for Time {
+    fn decode_choice(alloc: Global, any: Any<'a>) -> Result<Time, Error> {
+        choice_in_hand(alloc, any)
     }
 }
 

@@ -1,4 +1,6 @@
 -- What readers of elements and of contents octets say of more octets, and that they have one refusal.
+pub mod Decoded
+pub mod Kept
 pub mod Text
 pub mod Value
 pub mod Writing

@@ -1,4 +1,5 @@
 -- Arms that are told apart are lawful, and so is a choice of them.
+pub mod InHand
 pub mod Nested
 pub mod Readers
 use Rattle.std.proofs.Common.{◌≡◌, ◌≢◌, ◌∙◌, ap, sym, subst, refl, arith, ℕ, ◌<◌, ◌^◌, inl, inr, ◌⊎◌, Bool, true, false, List}

@@ -5,8 +5,11 @@ ghost use Rattle.std.specs.declared.result.Result.TheVariants as results;
 ghost use Rattle.std.specs.List.{All, flat_map};
 ghost use Rattle.std.specs.Iterator.{IsFinite, IsFiniteIterable, Drains};
 ghost use Rattle.x690.specs.Octets.{IsOctets};
-ghost use Rattle.x690.specs.Elements.{Parts};
+ghost use Rattle.x690.specs.Elements.{IsDerElement, Parts};
+ghost use Rattle.x690.specs.Faults.{DerElementFault};
+ghost use Rattle.asn1_headers.specs.Header.Reading.{der_refusal};
 ghost use Rattle.asn1_rs.specs.Any.{parts_of};
+ghost use Rattle.asn1_rs.specs.Laws.Any.Decoded.{converted_reads};
 ghost use Rattle.asn1_rs.specs.Checks.{has_number};
 ghost use Rattle.asn1_rs.specs.Traits.{OfParts, DerGives, PassesAll};
 ghost use Rattle.asn1_headers.specs.Answers.{seen};
@@ -27,8 +30,9 @@ use crate::asn1_types::sequence::iterator::{ReadsItems, ReadsWords, SequenceIter
 use crate::der::element_by_der;
 use crate::header::add_counts;
 use crate::kinds::collections::CollectionKind;
+use crate::kinds::decoding::DecodesBy;
 use crate::kinds::reading::{
-    CheckBy, ConstructedForm, EncodingForm, FromAnyBy, FromDerBy, ListReader,
+    CheckBy, ConstructedForm, EncodingForm, FromAnyBy, FromDerBy, HasReader, ListReader,
 };
 use crate::laws::assert_valid::States;
 use crate::to_der::ToDer;
@@ -221,6 +225,24 @@ where
     fn read_by_der(alloc: Global, bytes: &'a [u8]) -> ParseResult<'a, L, E> {
         list_by_der::<F, L, T, E>(alloc, bytes)
     }
+}
+
+/// The form of an element in hand is looked at, and then its items.
+impl<'a, F, L, T> DecodesBy<'a, ListReader<F>> for L
+where
+    F: EncodingForm,
+    L: FromItems<Item = T> + HasReader<Reader = ListReader<F>>,
+    T: FromDer<'a, Error> + Drop,
+{
+    ghost decode_gives = { OfParts
+        (ListTakes (F.form_gives (L.TAG).0) L.holds T.der_gives (λ e f. f ≡ e)) };
+
+    fn decode_element(alloc: Global, any: Any<'a>) -> Result<L, Error> {
+        list_of_element::<F, DerParser, L, T, Error>(alloc, &any)
+    }
+
+    ghost decodes = { converted_reads IsDerElement DerElementFault der_refusal (OfParts
+        (ListTakes (F.form_gives (L.TAG).0) L.holds T.der_gives (λ e f. f ≡ e))) };
 }
 
 /// What follows the first element by DER, if that keeps the constraints of an item.

@@ -79,7 +79,7 @@ fn is_of_arm(class: u8, tag: Tag, any: &Any<'_>) -> bool
 }
 
 /// The refusal of an element that is of no arm.
-fn no_arm(any: &Any<'_>) -> Error
+pub(crate) fn no_arm(any: &Any<'_>) -> Error
     ensures { result ≡ errors.UnexpectedTag None (record { 0 = (parts_of any.now).id.number }) }
 {
     Error::unexpected_tag(None, any.header.tag())

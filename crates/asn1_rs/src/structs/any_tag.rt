@@ -26,7 +26,7 @@ use std::alloc::Global;
 /// The value at the front of the octets by DER, or none where there are no octets.
 // Called at a `TaggedParser`, whose lifetime the borrow checker asks of its value too. So the impls of options have the
 // bound `'a`.
-fn or_none_by_der<'a, T: FromDer<'a, Error>>(
+pub(crate) fn or_none_by_der<'a, T: FromDer<'a, Error>>(
     alloc: Global,
     octets: &'a [u8],
 ) -> ParseResult<'a, Option<T>, Error>
@@ -39,7 +39,7 @@ fn or_none_by_der<'a, T: FromDer<'a, Error>>(
 }
 
 /// The same by BER.
-fn or_none_by_ber<'a, T: FromBer<'a, Error>>(
+pub(crate) fn or_none_by_ber<'a, T: FromBer<'a, Error>>(
     alloc: Global,
     octets: &'a [u8],
 ) -> ParseResult<'a, Option<T>, Error>

@@ -2,6 +2,7 @@
 ghost use Rattle.std.specs.Prelude.{◌≡◌, string_bytes, IfOk, IfErr, option_copied, option_map};
 ghost use Rattle.std.specs.Cow.{cow_slice_items, cow_str_bytes};
 ghost use Rattle.asn1_headers.specs.declared.error.Error.TheVariants as errors;
+ghost use Rattle.asn1_rs.specs.Any.Kept.{KeepsElement, kept_content};
 ghost use Rattle.asn1_rs.specs.BitString.{bits_in};
 ghost use Rattle.asn1_rs.specs.Copies.{IsCopyOfHeader};
 ghost use Rattle.asn1_rs.specs.Integer.Octets.{integer_octets};
@@ -11,6 +12,8 @@ ghost use Rattle.asn1_rs.specs.Oid.{oid_value};
 ghost use Rattle.asn1_rs.specs.Strings.{text_of};
 
 use super::ToStatic;
+use crate::asn1_types::any::Any;
+use crate::asn1_types::any::kept::KeptAny;
 use crate::asn1_types::bit_string::BitString;
 use crate::asn1_types::integer::octets::Integer;
 use crate::asn1_types::kept::Kept;
@@ -99,6 +102,41 @@ impl ToStatic for Header<'_> {
         };
         let copy = Header::new(self.class(), self.constructed(), self.tag(), self.length());
         Ok(copy.with_raw_tag(raw_tag))
+    }
+}
+
+/// A copy of the element that owns its octets.
+fn owned_element(
+    alloc: Global,
+    header: &Header<'_>,
+    content: &[u8],
+) -> Result<KeptAny<'static>, Error>
+    ensures copied { IfOk result (KeepsElement header.now content.now) }
+    ensures refused { IfErr result (λ e. e ≡ errors.OutOfMemory) }
+{
+    let header = header.to_static(alloc)?;
+    Ok(KeptAny::new(header, owned_octets(alloc, content)?))
+}
+
+/// The copy owns its octets, which an `Any` can't.
+impl ToStatic for Any<'_> {
+    type Owned = KeptAny<'static>;
+
+    ghost copies = { λ source copy. KeepsElement source.header source.content.now copy };
+
+    fn to_static(&self, alloc: Global) -> Result<KeptAny<'static>, Error> {
+        owned_element(alloc, &self.header, self.content)
+    }
+}
+
+/// The copy owns its octets.
+impl ToStatic for KeptAny<'_> {
+    type Owned = KeptAny<'static>;
+
+    ghost copies = { λ source copy. KeepsElement source.header (kept_content source) copy };
+
+    fn to_static(&self, alloc: Global) -> Result<KeptAny<'static>, Error> {
+        owned_element(alloc, &self.header, self.content.as_slice())
     }
 }
 

@@ -3,6 +3,8 @@ ghost use Rattle.std.specs.Prelude.{true};
 ghost use Rattle.asn1_headers.specs.declared.error.SerializeError.TheVariants.{InvalidClass};
 ghost use Rattle.asn1_headers.specs.Answers.{seen};
 ghost use Rattle.asn1_rs.specs.Any.{parts_of, BerElementGives};
+ghost use Rattle.asn1_rs.specs.Any.Decoded.{DecodesExplicit};
+ghost use Rattle.asn1_rs.specs.Laws.Any.Decoded.{explicit_reads};
 ghost use Rattle.asn1_rs.specs.Tagged.Explicit.{ExplicitTakes, ExplicitReads, ExplicitGives, ExplicitCheckGives};
 ghost use Rattle.asn1_rs.specs.Tagged.Explicit.{InnerTakes, tag_checks, explicit_grammar};
 ghost use Rattle.asn1_rs.specs.Laws.Tagged.{number_fits, same_beside_nothing};
@@ -27,6 +29,7 @@ use crate::asn1_types::tagged::{Explicit, HasClass, TagMark, TaggedValue};
 use crate::ber::element_by_ber;
 use crate::der::element_by_der;
 use crate::header::{element_len, put_counted_header};
+use crate::kinds::decoding::DecodesBy;
 use crate::kinds::reading::{
     CheckBy, FromAnyBy, FromDerBy, LawfulBodyBy, LawfulCheckBy, LawfulDerBy,
 };
@@ -188,6 +191,24 @@ where
             Err(e) => Err(e),
         }
     }
+}
+
+/// So is an element in hand read, where missing octets of the value are told as `Error::Incomplete`.
+impl<'a, T, const CLASS: u8, const TAG: u32> DecodesBy<'a, TagMark<Explicit>>
+    for TaggedValue<T, Error, Explicit, CLASS, TAG>
+where
+    T: FromDer<'a, Error> + Drop,
+{
+    ghost decode_gives = { DecodesExplicit CLASS TAG (λ t. t.inner) T.der_gives };
+
+    fn decode_element(alloc: Global, any: Any<'a>) -> Result<Self, Error> {
+        match inner_by_der::<T, Error>(alloc, CLASS, TAG, &any) {
+            Ok(inner) => Ok(TaggedValue::explicit(inner)),
+            Err(e) => Err(Error::from(e)),
+        }
+    }
+
+    ghost decodes = { explicit_reads CLASS TAG (λ t. t.inner) T.der_gives };
 }
 
 impl<T: CheckDerConstraints, E, const CLASS: u8, const TAG: u32> CheckBy<TagMark<Explicit>>

@@ -1,11 +1,13 @@
 //! Values under an implicit tag: the value's element, with this class and tag number in place of its
 //! own (X.690 8.14.3).
+ghost use Rattle.std.specs.Prelude.{◌≡◌};
 ghost use Rattle.x690.specs.Elements.{IsDerElement};
 ghost use Rattle.x690.specs.Faults.{DerElementFault};
 ghost use Rattle.asn1_headers.specs.declared.error.SerializeError.TheVariants.{InvalidClass};
 ghost use Rattle.asn1_rs.specs.declared.asn1_types.any.Any.{Any};
 ghost use Rattle.asn1_rs.specs.Any.{parts_of};
-ghost use Rattle.asn1_headers.specs.Header.Reading.{der_violation};
+ghost use Rattle.asn1_headers.specs.Header.Reading.{der_refusal, der_violation};
+ghost use Rattle.asn1_rs.specs.Laws.Any.Decoded.{converted_reads};
 ghost use Rattle.asn1_rs.specs.Laws.Readers.{unchecked_exact, element_no_memory, der_violation_no_memory, all_pass};
 ghost use Rattle.asn1_rs.specs.Laws.Tagged.{number_fits, same_beside_nothing};
 ghost use Rattle.asn1_rs.specs.Laws.Tagged.Implicit.{implicit_lawful, implicit_number, implicit_takes_class};
@@ -22,6 +24,7 @@ use crate::asn1_types::option::without_raw_tag;
 use crate::asn1_types::tagged::{HasClass, Implicit, TagMark, TaggedValue};
 use crate::der::element_by_der;
 use crate::header::{element_len, put_counted_header};
+use crate::kinds::decoding::DecodesBy;
 use crate::kinds::reading::{
     CheckBy, FromAnyBy, FromDerBy, LawfulBodyBy, LawfulCheckBy, LawfulDerBy,
 };
@@ -160,6 +163,23 @@ where
             Err(e) => Err(Err::Error(e)),
         }
     }
+}
+
+/// So is an element in hand read.
+impl<'a, T, const CLASS: u8, const TAG: u32> DecodesBy<'a, TagMark<Implicit>>
+    for TaggedValue<T, Error, Implicit, CLASS, TAG>
+where
+    T: FromAny<'a, Error = Error> + Tagged,
+{
+    ghost decode_gives = { ImplicitTakes CLASS TAG (λ t. t.inner) T.TAG T.any_gives
+        (λ e f. f ≡ e) };
+
+    fn decode_element(alloc: Global, any: Any<'a>) -> Result<Self, Error> {
+        Self::try_from_any(alloc, any)
+    }
+
+    ghost decodes = { converted_reads IsDerElement DerElementFault der_refusal
+        (ImplicitTakes CLASS TAG (λ t. t.inner) T.TAG T.any_gives (λ e f. f ≡ e)) };
 }
 
 /// Checks an element under the tag number of the value's type.
