@@ -26,6 +26,7 @@ pub use content::{
 };
 pub use extension::{
     Extension, ExtensionRow, extension_vec, kept_extension, read_extension, read_extension_by_ber,
+    strict_extension,
 };
 pub use hashed::{
     HashedCertificate, IssuerSerial, Sha256, hashed_certificate_vec, read_hashed_certificate,

@@ -1,6 +1,6 @@
 //! Items of lists: how they are read, checked, counted and written.
 ghost use Rattle.std.specs.Prelude.{◌≡◌, ◌⊎◌, ◌∷◌, Some, ◌≤◌, ◌<◌, ℕ, List, true, false, length, map, IfOk, IfErr};
-ghost use Rattle.std.specs.Prelude.{◌+◌, IsErr};
+ghost use Rattle.std.specs.Prelude.{◌+◌, ◌↔◌, IsErr, IsTrue};
 ghost use Rattle.std.specs.declared.result.Result.TheVariants as results;
 ghost use Rattle.std.specs.List.{All, flat_map};
 ghost use Rattle.std.specs.Iterator.{IsFinite, IsFiniteIterable, Drains};
@@ -35,6 +35,7 @@ use crate::kinds::reading::{
     CheckBy, ConstructedForm, EncodingForm, FromAnyBy, FromDerBy, HasReader, ListReader,
 };
 use crate::laws::assert_valid::States;
+use crate::laws::der_form::Decides;
 use crate::to_der::ToDer;
 use crate::traits::{CheckDerConstraints, FromBer, FromDer, Tagged, converted};
 use asn1_headers::buffer::DerBuffer;
@@ -119,6 +120,14 @@ pub trait Listed: Tagged {
 
     /// Its tag number is one of the low form.
     ghost small: { (Self.TAG).0 < 31 };
+}
+
+/// A list or a set that asks of its items whether something holds of each.
+pub trait DecidesEach: Listed {
+    /// Whether what `P` asks holds of each item. The items are asked in their order, up to the first one of which it
+    /// does not.
+    fn decide_each<P: Decides<Self::Item>>(&self) -> bool
+        ensures { IsTrue result ↔ All P.says (Self.items self.now) };
 }
 
 /// A list: a type that is made of items, which stand in the contents octets of one element.
@@ -321,6 +330,25 @@ where
     for item in items {
         P::state(item.deref());
     }
+}
+
+/// Whether what `P` asks holds of each item.
+pub(crate) fn decide_items<T, R, I, P>(items: I) -> bool
+where
+    P: Decides<T>,
+    R: Deref<Target = T> + Drop,
+    I: Iterator<Item = R> + Drop,
+    requires can { I.can_next items }
+    requires ends { IsFinite (I.remaining items) }
+    ensures { (xs : List T) → GivesItems I.next_gives R.deref_gives items xs →
+        (IsTrue result ↔ All P.says xs) }
+{
+    for item in items {
+        if !P::decide(item.deref()) {
+            return false;
+        }
+    }
+    true
 }
 
 /// How many octets the items are written in.

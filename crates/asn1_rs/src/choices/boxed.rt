@@ -9,6 +9,7 @@ use crate::choices::told::ToldChoice;
 use crate::choices::writing::UsesArm;
 use crate::choices::{ChecksChoice, ChoiceKind, LawfulChoice, ReadsChoiceByBer};
 use crate::kinds::HasKind;
+use crate::kinds::der_form::TellsDerBy;
 use crate::structs::field::LawfulType;
 use crate::traits::DynTagged;
 use asn1_headers::class::Class;
@@ -92,6 +93,13 @@ impl<C: ToldChoice> ToldChoice for Boxed<C> {
 
     fn has_class(class: Class) -> bool {
         C::has_class(class)
+    }
+}
+
+/// Where the value is.
+impl<C: LawfulChoice + TellsDerBy<ChoiceKind>> TellsDerBy<ChoiceKind> for Boxed<C> {
+    fn der_form_by_kind(&self) -> bool {
+        self.get().der_form_by_kind()
     }
 }
 

@@ -11,6 +11,7 @@
 pub(crate) mod assert_valid;
 pub(crate) mod collections;
 pub(crate) mod decoding;
+pub(crate) mod der_form;
 pub(crate) mod fields;
 pub(crate) mod leaf;
 pub(crate) mod reading;

@@ -5,6 +5,7 @@
 //! [`write_strict`], alone or nested in lists, sets and tags.
 
 pub(crate) mod assert_valid;
+pub(crate) mod der_form;
 pub(crate) mod faults;
 pub(crate) mod functions;
 
@@ -74,6 +75,7 @@ pub use crate::asn1_types::times::{
 pub use crate::laws::assert_valid::{
     AlwaysDer, assert_members_valid, assert_octets_valid, assert_text_valid,
 };
+pub use crate::laws::der_form::TellsDer;
 pub use crate::laws::faults::{
     faults_come_first_by_ber, faults_come_first_by_der, faults_of_lists_come_first,
     faults_of_tags_come_first, truncations_of_explicit_parsers_are_counted,

@@ -13,6 +13,7 @@
 
 pub(crate) mod any_tag;
 pub(crate) mod defaulted;
+pub(crate) mod der_form;
 pub(crate) mod field;
 pub(crate) mod flat;
 pub(crate) mod kept_any;

@@ -1,6 +1,7 @@
 //! Integers of any size, by their contents octets (X.690 8.3).
-ghost use Rattle.std.specs.Prelude.{◌≡◌, ◌≤◌, false, length, None, pos, IfOk};
+ghost use Rattle.std.specs.Prelude.{◌≡◌, ◌≤◌, ◌↔◌, false, length, None, pos, IfOk, IsTrue};
 ghost use Rattle.x690.specs.Digits.{base_256_value};
+ghost use Rattle.x690.specs.Integers.{IsShortestInteger};
 ghost use Rattle.asn1_rs.specs.Any.{parts_of};
 ghost use Rattle.asn1_headers.specs.Header.{HasParts};
 ghost use Rattle.asn1_rs.specs.Integer.{integer_number, IntegerCheckGives};
@@ -16,6 +17,7 @@ ghost use Rattle.asn1_headers.specs.declared.length.Length.TheVariants as forms;
 use crate::asn1_types::any::Any;
 use crate::asn1_types::integer::check_integer;
 use crate::asn1_types::integer::machine::MachineInt;
+use crate::kinds::der_form::TellsDerElement;
 use crate::kinds::leaf::{ConvertsLeaf, LeafType};
 use crate::kinds::writing::WritesOctets;
 use crate::kinds::{ElementKind, HasKind, TagNumber};
@@ -25,7 +27,7 @@ use asn1_headers::error::Error;
 use asn1_headers::tag::Tag;
 use std::alloc::Global;
 use std::borrow::CowSlice;
-use x690::integers::natural_parts;
+use x690::integers::{has_redundant_ones, has_redundant_zeros, natural_parts};
 
 /// An integer of any size, as the contents octets that say it in two's complement (X.690 8.3).
 ///
@@ -129,6 +131,13 @@ impl<'a> Any<'a> {
     }
 }
 
+/// Whether there is an octet, and none that could be left out.
+fn is_shortest_integer(octets: &[u8]) -> bool
+    ensures { IsTrue result ↔ IsShortestInteger octets.now }
+{
+    !octets.is_empty() && !has_redundant_zeros(octets) && !has_redundant_ones(octets)
+}
+
 impl HasKind for Integer<'_> {
     type Kind = ElementKind;
 }
@@ -166,6 +175,15 @@ impl WritesOctets for Integer<'_> {
     }
 
     ghost held_are = { leaf_written any_integer_leaf any_integer_lawful };
+}
+
+/// Where there is an octet, and none that could be left out (X.690 8.3.1, 8.3.2).
+impl TellsDerElement for Integer<'_> {
+    fn is_der_element(&self) -> bool {
+        let octets = self.as_bytes();
+        assert_octets_valid(octets);
+        is_shortest_integer(octets)
+    }
 }
 
 impl LawfulMember for Integer<'_> {

@@ -14,12 +14,14 @@ ghost use Rattle.asn1_rs.specs.Laws.Words.{ber_one};
 ghost use Rattle.asn1_rs.specs.Grammar.Item.{ber_words};
 
 use crate::asn1_types::lists::{
-    FromItems, Listed, PackedEncodings, count_items, encode_items, list_by_der, state_items,
+    DecidesEach, FromItems, Listed, PackedEncodings, count_items, decide_items, encode_items,
+    list_by_der, state_items,
 };
 use crate::kinds::HasKind;
 use crate::kinds::collections::{HasMembers, LawfulMembers, Once, SetKind, WritesAscending};
 use crate::kinds::reading::{ConstructedForm, LawfulBodyBy, LawfulCheckBy};
 use crate::laws::assert_valid::States;
+use crate::laws::der_form::Decides;
 use crate::laws::{LawfulBer, LawfulCheck, LawfulDer, LawfulMember};
 use crate::to_der::ToDer;
 use crate::traits::{FromDer, Tagged};
@@ -61,6 +63,12 @@ impl<T: Ord> Listed for BTreeSet<T> {
         T: ToDer,
     {
         count_items(self.iter())
+    }
+}
+
+impl<T: Ord> DecidesEach for BTreeSet<T> {
+    fn decide_each<P: Decides<T>>(&self) -> bool {
+        decide_items::<T, _, _, P>(self.iter())
     }
 }
 

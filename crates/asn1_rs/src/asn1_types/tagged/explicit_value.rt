@@ -34,6 +34,7 @@ use crate::kinds::reading::{
     CheckBy, FromAnyBy, FromDerBy, LawfulBodyBy, LawfulCheckBy, LawfulDerBy,
 };
 use crate::laws::assert_valid::AlwaysDer;
+use crate::laws::der_form::TellsDer;
 use crate::laws::{
     Grammar, LawfulBer, LawfulBody, LawfulCheck, LawfulDer, LawfulItem, LawfulMember, LawfulTagged,
     LawfulWrite, TakesClass,
@@ -247,6 +248,15 @@ where
     fn is_der(&self) {
         let _number = self.tag().0;
         self.inner.is_der();
+    }
+}
+
+/// Where the class is one of the four, and the value is in DER form.
+impl<T: TellsDer, E, const CLASS: u8, const TAG: u32> TellsDer
+    for TaggedValue<T, E, Explicit, CLASS, TAG> {
+    fn is_der_form(&self) -> bool {
+        let _number = self.tag().0;
+        CLASS <= 3 && self.inner.is_der_form()
     }
 }
 

@@ -29,6 +29,7 @@ use crate::kinds::reading::{
     CheckBy, FromAnyBy, FromDerBy, LawfulBodyBy, LawfulCheckBy, LawfulDerBy,
 };
 use crate::laws::assert_valid::AlwaysDer;
+use crate::laws::der_form::TellsDer;
 use crate::laws::{
     Grammar, LawfulBody, LawfulCheck, LawfulDer, LawfulItem, LawfulMember, LawfulTagged,
     LawfulWrite, TakesClass,
@@ -233,6 +234,15 @@ where
     fn is_der(&self) {
         let _number = self.tag().0;
         self.inner.is_der();
+    }
+}
+
+/// Where the class is one of the four, and the value is in DER form.
+impl<T: TellsDer + TakesClass<CLASS>, E, const CLASS: u8, const TAG: u32> TellsDer
+    for TaggedValue<T, E, Implicit, CLASS, TAG> {
+    fn is_der_form(&self) -> bool {
+        let _number = self.tag().0;
+        CLASS <= 3 && self.inner.is_der_form()
     }
 }
 
