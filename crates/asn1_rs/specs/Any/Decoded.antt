@@ -2,7 +2,7 @@
 use Rattle.std.specs.Prelude.{◌≡◌, ◌⊎◌, ℕ, Bool, IsTrue, List, Result, Ok, Err}
 use Rattle.x690.specs.Octets.{IsOctets}
 use Rattle.x690.specs.Elements.{Parts}
-use Rattle.asn1_headers.specs.Answers.{Front}
+use Rattle.asn1_headers.specs.Answers.{HasPrefix}
 use Rattle.asn1_headers.specs.declared.error.Err.{Err as Refusal}
 use Rattle.asn1_headers.specs.declared.error.Error.{Error}
 use Rattle.asn1_headers.specs.declared.error.Error.TheVariants as errors
@@ -22,14 +22,14 @@ TakesFront reads octets rest (Err e) = (r : Refusal Error) × reads octets (Err 
 -- memory.
 abbrev pub IsFront : {T V : Type 0} → (List ℕ → V → Type 0) → (T → V) → Bool → List ℕ → List ℕ → Result T Error →
     Type 0
-IsFront Words value allocates octets rest (Ok x) = Front Words octets (value x) rest
+IsFront Words value allocates octets rest (Ok x) = HasPrefix Words octets (value x) rest
 IsFront {T} {V} Words value allocates octets rest (Err e) = (IsTrue allocates × (e ≡ errors.OutOfMemory)) ⊎
-    ((v : V) (others : List ℕ) → Front Words octets v others → ⊥)
+    ((v : V) (others : List ℕ) → HasPrefix Words octets v others → ⊥)
 
 -- It is what the reader may answer to any octets that the element was read from.
-abbrev pub IsReadAs : {T : Type 0} → (List ℕ → Parts → Type 0) →
+abbrev pub IsReadAgain : {T : Type 0} → (List ℕ → Parts → Type 0) →
     (List ℕ → Result (List ℕ × T) (Refusal Error) → Type 0) → Any → Result T Error → Type 0
-IsReadAs ElementOf reads any answer =
+IsReadAgain ElementOf reads any answer =
     (octets rest : List ℕ) → BeginsWithAny ElementOf octets any rest → TakesFront reads octets rest answer
 
 -- So it is the value of the word that begins these octets, or none does.

@@ -9,8 +9,8 @@ use Rattle.asn1_rs.specs.declared.asn1_types.any.kept.KeptAny.{KeptAny}
 use Rattle.asn1_rs.specs.Any.Value.{ElementValue, any_element, element_of}
 use Rattle.asn1_rs.specs.Any.Writing.{element_writing}
 use Rattle.asn1_rs.specs.Copies.{IsCopyOfHeader}
-use Rattle.asn1_rs.specs.Kinds.{ElementGrammar, holding}
-use Rattle.asn1_rs.specs.ToDer.{Writing, held_writing}
+use Rattle.asn1_rs.specs.Kinds.{ElementGrammar, by_inner_element}
+use Rattle.asn1_rs.specs.ToDer.{Writing, inner_writing}
 
 -- the contents octets
 abbrev pub kept_content : KeptAny → List ℕ
@@ -26,11 +26,11 @@ kept_value a = element_of (as_element a)
 
 -- its values are those of elements of any type
 abbrev pub kept_element : ElementGrammar KeptAny
-kept_element = holding as_element any_element
+kept_element = by_inner_element as_element any_element
 
 -- and it is written as they are
 abbrev pub kept_element_writing : Writing KeptAny
-kept_element_writing = held_writing as_element element_writing
+kept_element_writing = inner_writing as_element element_writing
 
 -- it has the parts of this header, its length and the identifier octets that it keeps among them, and these contents
 -- octets

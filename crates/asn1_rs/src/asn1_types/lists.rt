@@ -13,9 +13,9 @@ ghost use Rattle.asn1_rs.specs.Laws.Any.Decoded.{converted_reads};
 ghost use Rattle.asn1_rs.specs.Checks.{has_number};
 ghost use Rattle.asn1_rs.specs.Traits.{OfParts, DerGives, PassesAll};
 ghost use Rattle.asn1_headers.specs.Answers.{seen};
-ghost use Rattle.asn1_rs.specs.Lists.{IsListOr, ItemsGive, ListGives, ListTakes, ItemsCheckGives};
+ghost use Rattle.asn1_rs.specs.Lists.{IsListOr, ItemsGive, ListGives, ListConverts, ItemsCheckGives};
 ghost use Rattle.asn1_rs.specs.Lists.{ListCheckGives, FirstChecked, GivesItems, PushesItem, ArePacked, SomeRefuses};
-ghost use Rattle.asn1_rs.specs.Lists.{ListBody, ListOf, MadeOf, listed};
+ghost use Rattle.asn1_rs.specs.Lists.{ListBody, ListOf, IsListMadeOf, listed};
 ghost use Rattle.asn1_headers.specs.declared.error.SerializeError.{SerializeError};
 ghost use Rattle.asn1_headers.specs.declared.error.Error.{Error};
 ghost use Rattle.asn1_headers.specs.declared.error.Error.TheVariants as errors;
@@ -159,7 +159,7 @@ where
     type Refusal = E;
 
     ghost gives_by_kind = { OfParts
-        (ListTakes (IsListOr (L.TAG).0) L.holds T.ber_gives E.from_gives) };
+        (ListConverts (IsListOr (L.TAG).0) L.holds T.ber_gives E.from_gives) };
 
     fn convert_by_kind(alloc: Global, any: Any<'a>) -> Result<L, E> {
         list_of_element::<ConstructedForm, BerParser, L, T, E>(alloc, &any)
@@ -193,7 +193,7 @@ where
     L: FromItems<Item = T>,
     T: Drop,
     E: From<Error>,
-    ensures { ListTakes (F.form_gives (L.TAG).0) L.holds R.item_gives E.from_gives
+    ensures { ListConverts (F.form_gives (L.TAG).0) L.holds R.item_gives E.from_gives
         (parts_of any.now) result }
 {
     if let Err(e) = F::assert_form(L::TAG.0, any) {
@@ -210,7 +210,7 @@ where
     T: FromDer<'a, E> + Drop,
     E: From<Error>,
     ensures { DerGives PassesAll
-        (OfParts (ListTakes (F.form_gives (L.TAG).0) L.holds T.der_gives E.from_gives))
+        (OfParts (ListConverts (F.form_gives (L.TAG).0) L.holds T.der_gives E.from_gives))
         E.from_gives bytes.now (seen result) }
 {
     let (rest, any) = converted(element_by_der(bytes))?;
@@ -228,7 +228,7 @@ where
     E: From<Error>,
 {
     ghost gives_by_reader = { DerGives PassesAll
-        (OfParts (ListTakes (F.form_gives (L.TAG).0) L.holds T.der_gives E.from_gives))
+        (OfParts (ListConverts (F.form_gives (L.TAG).0) L.holds T.der_gives E.from_gives))
         E.from_gives };
 
     fn read_by_der(alloc: Global, bytes: &'a [u8]) -> ParseResult<'a, L, E> {
@@ -244,14 +244,14 @@ where
     T: FromDer<'a, Error> + Drop,
 {
     ghost decode_gives = { OfParts
-        (ListTakes (F.form_gives (L.TAG).0) L.holds T.der_gives (λ e f. f ≡ e)) };
+        (ListConverts (F.form_gives (L.TAG).0) L.holds T.der_gives (λ e f. f ≡ e)) };
 
     fn decode_element(alloc: Global, any: Any<'a>) -> Result<L, Error> {
         list_of_element::<F, DerParser, L, T, Error>(alloc, &any)
     }
 
     ghost decodes = { converted_reads IsDerElement DerElementFault der_refusal (OfParts
-        (ListTakes (F.form_gives (L.TAG).0) L.holds T.der_gives (λ e f. f ≡ e))) };
+        (ListConverts (F.form_gives (L.TAG).0) L.holds T.der_gives (λ e f. f ≡ e))) };
 }
 
 /// What follows the first element by DER, if that keeps the constraints of an item.
@@ -575,15 +575,15 @@ where
     F: ReadsWords<'a, T, E>,
     E: From<Error>,
     ensures taken { (number : ℕ) (p : Parts) (list : L) → IsOctets p.content →
-        ListTakes (IsListOr number) L.holds F.item_gives E.from_gives p (results.Ok list) →
-        MadeOf (ListBody number F.Words) F.value L.holds p list }
+        ListConverts (IsListOr number) L.holds F.item_gives E.from_gives p (results.Ok list) →
+        IsListMadeOf (ListBody number F.Words) F.value L.holds p list }
     ensures not_taken { (number : ℕ) (p : Parts) (e : E) → IsOctets p.content →
-        ListTakes (IsListOr number) L.holds F.item_gives E.from_gives p (results.Err e) →
+        ListConverts (IsListOr number) L.holds F.item_gives E.from_gives p (results.Err e) →
         E.from_gives errors.OutOfMemory e ⊎ HasNone (ListBody number F.Words p) }
     ensures read { (number : ℕ) (p : Parts) (list : L) → IsOctets p.content →
-        ListTakes (has_number number) L.holds F.item_gives E.from_gives p (results.Ok list) →
-        MadeOf (ListOf number F.Words) F.value L.holds p list }
+        ListConverts (has_number number) L.holds F.item_gives E.from_gives p (results.Ok list) →
+        IsListMadeOf (ListOf number F.Words) F.value L.holds p list }
     ensures not_read { (number : ℕ) (p : Parts) (e : E) → IsOctets p.content →
-        ListTakes (has_number number) L.holds F.item_gives E.from_gives p (results.Err e) →
+        ListConverts (has_number number) L.holds F.item_gives E.from_gives p (results.Err e) →
         E.from_gives errors.OutOfMemory e ⊎ HasNone (ListOf number F.Words p) }
 {}

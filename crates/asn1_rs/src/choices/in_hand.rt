@@ -4,8 +4,9 @@ ghost use Rattle.x690.specs.Elements.{IsDerElement};
 ghost use Rattle.asn1_headers.specs.declared.error.Error.{Error};
 ghost use Rattle.asn1_rs.specs.declared.asn1_types.any.Any.{Any};
 ghost use Rattle.asn1_rs.specs.Any.{parts_of};
-ghost use Rattle.asn1_rs.specs.Any.Decoded.{IsReadAs};
-ghost use Rattle.asn1_rs.specs.Choices.{ChoiceGives, ChoiceReads, IsNoArm, OrGives, choice_grammar, has_a_tag, has_tag};
+ghost use Rattle.asn1_rs.specs.Any.Decoded.{IsReadAgain};
+ghost use Rattle.asn1_rs.specs.Choices.{ChoiceGives, ChoiceReads, IsNoArm, OrGives, choice_grammar, has_a_tag};
+ghost use Rattle.asn1_rs.specs.Choices.{is_of_tag};
 ghost use Rattle.asn1_rs.specs.Choices.Data.{AnswersByDer, ReadsChoiceAlso};
 ghost use Rattle.asn1_rs.specs.Choices.InHand.{IsReadByArms};
 ghost use Rattle.asn1_rs.specs.Choices.Nested.{OrChoiceGives};
@@ -52,7 +53,7 @@ where
     T: LawfulDer<'a, Error> + Tagged + HasReader + DecodesBy<'a, T::Reader>,
     R: DecodesArms<'a>,
 {
-    ghost arms_decode = { λ any. OrGives (has_tag CLASS (T.TAG).0 (parts_of any).id)
+    ghost arms_decode = { λ any. OrGives (is_of_tag CLASS (T.TAG).0 (parts_of any).id)
         (T.decode_gives any) (R.arms_decode any) };
 
     fn decode_arm(alloc: Global, any: Any<'a>) -> Result<Self, Error> {
@@ -68,7 +69,7 @@ where
         }
     }
 
-    ghost decodes_arms = { λ any. or_in_hand (has_tag CLASS (T.TAG).0 (parts_of any).id) any
+    ghost decodes_arms = { λ any. or_in_hand (is_of_tag CLASS (T.TAG).0 (parts_of any).id) any
         T.der_gives (R.arms_give (parts_of any).id) (T.decode_gives any) (R.arms_decode any)
         (T.decodes any) (R.decodes_arms any) };
 }
@@ -80,7 +81,7 @@ where
 {
     ghost arms_decode = { λ any. OrChoiceGives
         (has_a_tag C.laws.arms.grammar.tags (parts_of any).id)
-        (IsReadAs IsDerElement (ReadsChoiceAlso C.laws C.choice_gives) any)
+        (IsReadAgain IsDerElement (ReadsChoiceAlso C.laws C.choice_gives) any)
         (R.arms_decode any) };
 
     fn decode_arm(alloc: Global, any: Any<'a>) -> Result<Self, Error> {
@@ -99,7 +100,7 @@ where
     ghost decodes_arms = { λ any. or_choice_in_hand
         (has_a_tag C.laws.arms.grammar.tags (parts_of any).id) any
         (ReadsChoiceAlso C.laws C.choice_gives) (R.arms_give (parts_of any).id)
-        (IsReadAs IsDerElement (ReadsChoiceAlso C.laws C.choice_gives) any)
+        (IsReadAgain IsDerElement (ReadsChoiceAlso C.laws C.choice_gives) any)
         (R.arms_decode any) (λ answer g. g) (R.decodes_arms any) };
 }
 
@@ -113,7 +114,7 @@ where
 pub trait DecodesChoice<'a>: ReadsChoice<'a> {
     /// The value of the arm whose class and tag number the element has. Refused as by `read_choice`.
     fn decode_choice(alloc: Global, any: Any<'a>) -> Result<Self, Error>
-        ensures { IsReadAs IsDerElement (ReadsChoiceAlso Self.laws Self.choice_gives) any.entry
+        ensures { IsReadAgain IsDerElement (ReadsChoiceAlso Self.laws Self.choice_gives) any.entry
             result };
 }
 
@@ -139,7 +140,7 @@ pub fn choice_in_hand<'a, T, A>(alloc: Global, any: Any<'a>) -> Result<T, Error>
 where
     T: OfArms<Arms = A>,
     A: DecodesArms<'a>,
-    ensures { IsReadAs IsDerElement
+    ensures { IsReadAgain IsDerElement
         (λ octets given. AnswersByDer (choice_grammar T.as_arms A.read_arms) A.read_arms.tags
         octets given × ChoiceReads A.read_arms.tags T.as_arms A.arms_give octets given)
         any.entry result }
@@ -152,7 +153,7 @@ impl<'a, T> DecodesBy<'a, ChoiceReader> for T
 where
     T: DecodesChoice<'a> + HasReader<Reader = ChoiceReader>,
 {
-    ghost decode_gives = { IsReadAs IsDerElement (ReadsChoiceAlso T.laws T.choice_gives) };
+    ghost decode_gives = { IsReadAgain IsDerElement (ReadsChoiceAlso T.laws T.choice_gives) };
 
     fn decode_element(alloc: Global, any: Any<'a>) -> Result<T, Error> {
         T::decode_choice(alloc, any)

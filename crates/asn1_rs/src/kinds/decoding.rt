@@ -5,7 +5,7 @@ ghost use Rattle.x690.specs.Faults.{DerElementFault};
 ghost use Rattle.asn1_headers.specs.Header.Reading.{der_refusal};
 ghost use Rattle.asn1_headers.specs.declared.error.Error.{Error};
 ghost use Rattle.asn1_rs.specs.declared.asn1_types.any.Any.{Any};
-ghost use Rattle.asn1_rs.specs.Any.Decoded.{CheckedThenConverted, IsReadAs};
+ghost use Rattle.asn1_rs.specs.Any.Decoded.{CheckedThenConverted, IsReadAgain};
 ghost use Rattle.asn1_rs.specs.Laws.Any.Decoded.{checked_reads};
 
 use crate::asn1_types::any::Any;
@@ -26,7 +26,7 @@ pub trait DecodesBy<'a, R>: FromDer<'a, Error> {
 
     /// It is what `from_der` may answer to the octets that the element was read from.
     ghost decodes: { (any : Any) (answer : Result Self Error) → Self.decode_gives any answer →
-        IsReadAs IsDerElement Self.der_gives any answer };
+        IsReadAgain IsDerElement Self.der_gives any answer };
 }
 
 /// Its constraints are checked, and then it is converted.

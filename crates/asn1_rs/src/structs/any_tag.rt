@@ -7,7 +7,7 @@ ghost use Rattle.asn1_headers.specs.Answers.{seen};
 ghost use Rattle.asn1_headers.specs.Header.{identifier_of};
 ghost use Rattle.asn1_rs.specs.Laws.Structs.Fields.{any_field_lawful, any_option_lawful};
 ghost use Rattle.asn1_rs.specs.Laws.Tagged.Headed.{explicit_headed_lawful, implicit_headed_lawful};
-ghost use Rattle.asn1_rs.specs.Optional.{IfHeld, IsAtEnd, OptionGives, option_writing};
+ghost use Rattle.asn1_rs.specs.Optional.{InSome, IsAtEnd, OptionGives, option_writing};
 ghost use Rattle.asn1_rs.specs.Structs.{any_number, item_field, left_out_at_end, optional_field};
 
 use crate::asn1_types::option::held;
@@ -228,7 +228,7 @@ where
 {
     ghost field_writing = { option_writing ⟦<TaggedParser<'a, Kind, T, Error> as ToDer>⟧.writing };
 
-    ghost has_a_value = { IfHeld (λ x. ⟦<TaggedParser<'a, Kind, T, Error> as Grammar>⟧.grammar.IsValue
+    ghost has_a_value = { InSome (λ x. ⟦<TaggedParser<'a, Kind, T, Error> as Grammar>⟧.grammar.IsValue
         (⟦<TaggedParser<'a, Kind, T, Error> as Grammar>⟧.grammar.value x)) };
 
     #[inline(always)]

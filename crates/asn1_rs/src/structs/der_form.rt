@@ -1,7 +1,7 @@
 //! Whether fields of structs in hand are in DER form.
 ghost use Rattle.std.specs.Prelude.{◌≡◌, ◌⊎◌, ◌↔◌, IsTrue};
 ghost use Rattle.asn1_rs.specs.Any.Value.{any_element};
-ghost use Rattle.asn1_rs.specs.Optional.{IfHeld};
+ghost use Rattle.asn1_rs.specs.Optional.{InSome};
 
 use crate::asn1_types::any::Any;
 use crate::laws::der_form::TellsDer;
@@ -29,7 +29,7 @@ impl<T: LawfulType + TellsDer> FieldTellsDer for T {
 
 /// Where it holds nothing, or a value in DER form.
 impl<T: LawfulType + TellsDer> FieldTellsDer for Option<T> {
-    ghost in_der_form = { IfHeld (λ x. T.grammar.IsDer (T.grammar.value x)) };
+    ghost in_der_form = { InSome (λ x. T.grammar.IsDer (T.grammar.value x)) };
 
     fn is_der_field(&self) -> bool {
         match self {
@@ -48,7 +48,7 @@ impl FieldTellsDer for Any<'_> {
 }
 
 impl FieldTellsDer for Option<Any<'_>> {
-    ghost in_der_form = { IfHeld (λ x. any_element.IsDer (any_element.value x)) };
+    ghost in_der_form = { InSome (λ x. any_element.IsDer (any_element.value x)) };
 
     fn is_der_field(&self) -> bool {
         match self {

@@ -4,11 +4,11 @@ ghost use Rattle.std.specs.Prelude.{◌≡◌};
 ghost use Rattle.asn1_headers.specs.Answers.{seen};
 ghost use Rattle.asn1_rs.specs.Any.{IsDefiniteOr, IsTheElement};
 ghost use Rattle.asn1_rs.specs.Any.Kept.{as_element, kept_element, kept_element_writing};
-ghost use Rattle.asn1_rs.specs.Kinds.{HoldingGives, item_grammar};
+ghost use Rattle.asn1_rs.specs.Kinds.{InnerGives, item_grammar};
 ghost use Rattle.asn1_rs.specs.Laws.Any.Kept.{kept_element_lawful};
 ghost use Rattle.asn1_rs.specs.Laws.Kinds.{lawful_item};
 ghost use Rattle.asn1_rs.specs.Laws.Structs.Fields.{any_field_lawful, any_option_lawful};
-ghost use Rattle.asn1_rs.specs.Optional.{IfHeld, IsAtEnd, OptionGives, option_writing};
+ghost use Rattle.asn1_rs.specs.Optional.{InSome, IsAtEnd, OptionGives, option_writing};
 ghost use Rattle.asn1_rs.specs.Structs.{any_number, by_ber, by_der, item_field, left_out_at_end, optional_field};
 ghost use Rattle.asn1_rs.specs.Structs.Data.{AnswersField};
 ghost use Rattle.asn1_rs.specs.Traits.{BerGives, DerGives};
@@ -76,7 +76,7 @@ fn untold_or_none_by_ber<'a, T: LawfulBer<'a, Error>>(
 impl<'a> ReadsField<'a, DerParser> for KeptAny<'a> {
     ghost field_grammar = { item_field any_number (item_grammar kept_element) };
 
-    ghost field_gives = { DerGives IsDefiniteOr (HoldingGives as_element IsTheElement)
+    ghost field_gives = { DerGives IsDefiniteOr (InnerGives as_element IsTheElement)
         (λ e f. f ≡ e) };
 
     ghost lawful_field = { any_field_lawful (item_grammar kept_element)
@@ -93,7 +93,7 @@ impl<'a> ReadsField<'a, DerParser> for Option<KeptAny<'a>> {
         (item_grammar kept_element) };
 
     ghost field_gives = { OptionGives IsAtEnd (DerGives IsDefiniteOr
-        (HoldingGives as_element IsTheElement) (λ e f. f ≡ e)) };
+        (InnerGives as_element IsTheElement) (λ e f. f ≡ e)) };
 
     ghost lawful_field = { any_option_lawful (item_grammar kept_element)
         (lawful_item kept_element kept_element_lawful) };
@@ -107,7 +107,7 @@ impl<'a> ReadsField<'a, DerParser> for Option<KeptAny<'a>> {
 impl<'a> ReadsField<'a, BerParser> for KeptAny<'a> {
     ghost field_grammar = { item_field any_number (item_grammar kept_element) };
 
-    ghost field_gives = { BerGives (HoldingGives as_element IsTheElement) (λ e f. f ≡ e) };
+    ghost field_gives = { BerGives (InnerGives as_element IsTheElement) (λ e f. f ≡ e) };
 
     ghost lawful_field = { any_field_lawful (item_grammar kept_element)
         (lawful_item kept_element kept_element_lawful) };
@@ -122,7 +122,7 @@ impl<'a> ReadsField<'a, BerParser> for Option<KeptAny<'a>> {
     ghost field_grammar = { optional_field any_number left_out_at_end
         (item_grammar kept_element) };
 
-    ghost field_gives = { OptionGives IsAtEnd (BerGives (HoldingGives as_element IsTheElement)
+    ghost field_gives = { OptionGives IsAtEnd (BerGives (InnerGives as_element IsTheElement)
         (λ e f. f ≡ e)) };
 
     ghost lawful_field = { any_option_lawful (item_grammar kept_element)
@@ -152,7 +152,7 @@ impl<'a> WritesField for KeptAny<'a> {
 impl<'a> WritesField for Option<KeptAny<'a>> {
     ghost field_writing = { option_writing kept_element_writing };
 
-    ghost has_a_value = { IfHeld (λ x. kept_element.IsValue (kept_element.value x)) };
+    ghost has_a_value = { InSome (λ x. kept_element.IsValue (kept_element.value x)) };
 
     #[inline(always)]
     fn put_field(&self, fields: &mut Fields) -> SerializeResult<()> {
@@ -175,7 +175,7 @@ impl FieldIsDer for KeptAny<'_> {
 }
 
 impl FieldIsDer for Option<KeptAny<'_>> {
-    ghost is_in_der = { IfHeld (λ x. kept_element.IsDer (kept_element.value x)) };
+    ghost is_in_der = { InSome (λ x. kept_element.IsDer (kept_element.value x)) };
 
     fn field_is_der(&self) {
         if let Some(x) = self {

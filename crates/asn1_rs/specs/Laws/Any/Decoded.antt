@@ -13,7 +13,7 @@ use Rattle.asn1_headers.specs.declared.error.Err.TheVariants.{Error as refused}
 use Rattle.asn1_headers.specs.declared.error.Error.{Error}
 use Rattle.asn1_rs.specs.declared.asn1_types.any.Any.{Any}
 use Rattle.asn1_rs.specs.Any.{parts_of}
-use Rattle.asn1_rs.specs.Any.Decoded.{CheckedThenConverted, DecodesExplicit, IsFront, IsReadAs, IsWordInHand}
+use Rattle.asn1_rs.specs.Any.Decoded.{CheckedThenConverted, DecodesExplicit, IsFront, IsReadAgain, IsWordInHand}
 use Rattle.asn1_rs.specs.Any.Decoded.{TakesFront}
 use Rattle.asn1_rs.specs.Checks.{CheckGives}
 use Rattle.asn1_rs.specs.Grammar.{NoCheck, TakesBody}
@@ -29,7 +29,7 @@ module _ {T : Type 0} (ElementOf : List ℕ → Parts → Type 0) (FaultOf : Lis
   -- In this order the answer is the reader's.
   pub checked_reads : (check : CheckGives) (convert : Any → Result T Error → Type 0) (any : Any)
       (answer : Result T Error) → CheckedThenConverted check convert any answer →
-      IsReadAs ElementOf (ElementGives ElementOf FaultOf refusal check convert (λ (x y : Error). y ≡ x)) any answer
+      IsReadAgain ElementOf (ElementGives ElementOf FaultOf refusal check convert (λ (x y : Error). y ≡ x)) any answer
   checked_reads check convert any (Ok x) g octets rest begins = (any, begins, g.0, g.1)
   checked_reads check convert any (Err e) (inl c) octets rest begins =
       (refused e, inr (any, rest, begins, inl (e, c, (e, refl, refl))), refl)
@@ -39,7 +39,8 @@ module _ {T : Type 0} (ElementOf : List ℕ → Parts → Type 0) (FaultOf : Lis
   -- So it is where nothing is checked.
   pub converted_reads : (convert : Any → Result T Error → Type 0) (any : Any) (answer : Result T Error) →
       convert any answer →
-      IsReadAs ElementOf (ElementGives ElementOf FaultOf refusal PassesAll convert (λ (x y : Error). y ≡ x)) any answer
+      IsReadAgain ElementOf (ElementGives ElementOf FaultOf refusal PassesAll convert (λ (x y : Error). y ≡ x)) any
+      answer
   converted_reads convert any (Ok x) g octets rest begins = (any, begins, refl, g)
   converted_reads convert any (Err e) g octets rest begins =
       (refused e, inr (any, rest, begins, inr (refl, (e, g, refl))), refl)
@@ -48,7 +49,7 @@ module _ {T : Type 0} (ElementOf : List ℕ → Parts → Type 0) (FaultOf : Lis
 pub explicit_reads : {T W : Type 0} (class number : ℕ) (inner : W → T)
     (reads : List ℕ → Result (List ℕ × T) (Refusal Error) → Type 0) (any : Any) (answer : Result W Error) →
     DecodesExplicit class number inner reads any answer →
-    IsReadAs IsDerElement (ExplicitGives class number inner reads (λ (x y : Error). y ≡ x)) any answer
+    IsReadAgain IsDerElement (ExplicitGives class number inner reads (λ (x y : Error). y ≡ x)) any answer
 explicit_reads class number inner reads any (Ok w) g octets rest begins = (parts_of any, begins.front, g)
 explicit_reads class number inner reads any (Err e) g octets rest begins =
     (g.0, inr (parts_of any, rest, begins.front, g.1), g.2)
@@ -68,7 +69,7 @@ module _ {T V : Type 0} (ElementOf : List ℕ → Parts → Type 0) (IsTruncated
   ]
 
   -- And what an element in hand is read as.
-  pub word_in_hand : (any : Any) (answer : Result T Error) → IsReadAs ElementOf reads any answer →
+  pub word_in_hand : (any : Any) (answer : Result T Error) → IsReadAgain ElementOf reads any answer →
       IsWordInHand ElementOf G value allocates any answer
   word_in_hand any answer g octets rest k begins = front_exact octets rest k answer (g octets rest begins)
 

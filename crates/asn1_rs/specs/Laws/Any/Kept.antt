@@ -10,24 +10,24 @@ use Rattle.asn1_rs.specs.Any.Kept.{same_elements}
 use Rattle.asn1_rs.specs.Any.Value.{any_element}
 use Rattle.asn1_rs.specs.Any.Writing.{element_writing}
 use Rattle.asn1_rs.specs.Grammar.Item.{IsLawfulWriting}
-use Rattle.asn1_rs.specs.Kinds.{HoldingGives, IsExactConversion, IsLawfulElement, item_grammar}
+use Rattle.asn1_rs.specs.Kinds.{InnerGives, IsExactConversion, IsLawfulElement, item_grammar}
 use Rattle.asn1_rs.specs.Laws.Any.Value.{element_converts, element_lawful}
 use Rattle.asn1_rs.specs.Laws.Any.Writing.{element_lawful_writing, same_elements_say}
 use Rattle.asn1_rs.specs.Laws.Kinds.{holding_converts, holding_lawful}
-use Rattle.asn1_rs.specs.Laws.Writing.{held_lawful_writing}
+use Rattle.asn1_rs.specs.Laws.Writing.{inner_lawful_writing}
 
 -- They are lawful.
 pub kept_element_lawful : IsLawfulElement kept_element
 kept_element_lawful = holding_lawful as_element any_element element_lawful
 
 -- Their conversion is exact.
-pub kept_element_converts : IsExactConversion (HoldingGives as_element IsTheElement) kept_element
+pub kept_element_converts : IsExactConversion (InnerGives as_element IsTheElement) kept_element
 kept_element_converts = holding_converts as_element any_element IsTheElement element_converts
 
 -- What is written for them is lawful.
 pub kept_element_lawful_writing : IsLawfulWriting (item_grammar kept_element) kept_element_writing
 kept_element_lawful_writing =
-    held_lawful_writing as_element (item_grammar any_element) element_writing element_lawful_writing
+    inner_lawful_writing as_element (item_grammar any_element) element_writing element_lawful_writing
 
 -- Two are equal exactly where they say the same.
 pub kept_elements_same : (x y : KeptAny) →

@@ -74,8 +74,8 @@ abbrev pub the_value : Identifier → List ℕ → ElementValue
 the_value i c = record { id = i; content = c }
 
 -- Headers that the test calls the same say one identifier.
-pub same_parts : (g h : Header) → is_same_identifier g h ≡ true → identifier_of g ≡ identifier_of h
-same_parts g h e = search rules
+pub identifiers_are_same : (g h : Header) → is_same_identifier g h ≡ true → identifier_of g ≡ identifier_of h
+identifiers_are_same g h e = search rules
 
 -- Headers that say one identifier are called the same by the test.
 pub parts_same : (g h : Header) → identifier_of g ≡ identifier_of h → is_same_identifier g h ≡ true
@@ -93,7 +93,7 @@ pub same_elements_say : (g h : Header) (c d : List ℕ) (same : Bool) → IsTrue
 same_elements_say g h c d same decides = (
   λ t.
       let b = both_true (is_same_identifier g h) same t in
-      ap (λ (z : Identifier). the_value z c) (same_parts g h b.0)
+      ap (λ (z : Identifier). the_value z c) (identifiers_are_same g h b.0)
       ∙ ap (λ (z : List ℕ). the_value (identifier_of h) z) (decides.0 b.1),
   λ e.
       let i : is_same_identifier g h ≡ true = parts_same g h (ap (λ (z : ElementValue). z.id) e) in

@@ -12,7 +12,7 @@ use Rattle.asn1_rs.specs.declared.choices.arms.Or.TheVariants as arm
 use Rattle.asn1_rs.specs.declared.choices.nested.OrChoice.{OrChoice}
 use Rattle.asn1_rs.specs.declared.choices.nested.OrChoice.TheVariants as part
 use Rattle.asn1_rs.specs.Any.{parts_of}
-use Rattle.asn1_rs.specs.Any.Decoded.{IsReadAs}
+use Rattle.asn1_rs.specs.Any.Decoded.{IsReadAgain}
 use Rattle.asn1_rs.specs.Choices.{ChoiceGives, ChoiceReads, IsNoArm, OrGives, OrReads}
 use Rattle.asn1_rs.specs.Choices.InHand.{IsReadByArms}
 use Rattle.asn1_rs.specs.Choices.Nested.{OrChoiceGives, OrChoiceReads}
@@ -32,11 +32,11 @@ none_in_hand any (Err e) g octets rest begins = (refused e, ap the_refusal g, re
 module _ {A B : Type 0} (told : Bool) (any : Any) (first : List ℕ → Result (List ℕ × A) (Refusal Error) → Type 0)
     (others : List ℕ → Result (List ℕ × B) (Refusal Error) → Type 0) (this : Result A Error → Type 0)
     (rest_of : Result B Error → Type 0)
-    (first_read : (answer : Result A Error) → this answer → IsReadAs IsDerElement first any answer)
-    (others_read : (answer : Result B Error) → rest_of answer → IsReadAs IsDerElement others any answer) where
+    (first_read : (answer : Result A Error) → this answer → IsReadAgain IsDerElement first any answer)
+    (others_read : (answer : Result B Error) → rest_of answer → IsReadAgain IsDerElement others any answer) where
   -- Of the first one, or of another.
   pub or_in_hand : {class : ℕ} (answer : Result (Or A B class) Error) → OrGives told this rest_of answer →
-      IsReadAs IsDerElement (OrReads told first others) any answer
+      IsReadAgain IsDerElement (OrReads told first others) any answer
   or_in_hand (Ok (arm.This x)) g octets rest begins = (g.0, first_read (Ok x) g.1 octets rest begins)
   or_in_hand (Ok (arm.Other y)) g octets rest begins = (g.0, others_read (Ok y) g.1 octets rest begins)
   or_in_hand (Err e) (inl g) octets rest begins =
@@ -46,7 +46,7 @@ module _ {A B : Type 0} (told : Bool) (any : Any) (first : List ℕ → Result (
 
   -- So it is of a choice, or of the other arms.
   pub or_choice_in_hand : (answer : Result (OrChoice A B) Error) → OrChoiceGives told this rest_of answer →
-      IsReadAs IsDerElement (OrChoiceReads told first others) any answer
+      IsReadAgain IsDerElement (OrChoiceReads told first others) any answer
   or_choice_in_hand (Ok (part.This x)) g octets rest begins = (g.0, first_read (Ok x) g.1 octets rest begins)
   or_choice_in_hand (Ok (part.Other y)) g octets rest begins = (g.0, others_read (Ok y) g.1 octets rest begins)
   or_choice_in_hand (Err e) (inl g) octets rest begins =
@@ -60,7 +60,7 @@ pub choice_in_hand : {S T : Type 0} (tags : List (ℕ × ℕ)) (as_arms : T → 
     (decodes : Any → Result S Error → Type 0) →
     ((any : Any) (answer : Result S Error) → decodes any answer → IsReadByArms reads any answer) →
     (any : Any) (answer : Result T Error) → ChoiceGives tags as_arms decodes any answer →
-    IsReadAs IsDerElement (ChoiceReads tags as_arms reads) any answer
+    IsReadAgain IsDerElement (ChoiceReads tags as_arms reads) any answer
 choice_in_hand tags as_arms reads decodes each any (Ok x) g octets rest begins =
     (any, rest, begins, each any (Ok (as_arms x)) g octets rest begins)
 choice_in_hand tags as_arms reads decodes each any (Err e) (inl c) octets rest begins =
@@ -71,8 +71,8 @@ choice_in_hand tags as_arms reads decodes each any (Err e) (inr g) octets rest b
 -- What follows from an answer of the reader is so, too.
 pub read_also : {T : Type 0} (reads more : List ℕ → Result (List ℕ × T) (Refusal Error) → Type 0) →
     ((octets : List ℕ) (given : Result (List ℕ × T) (Refusal Error)) → reads octets given → more octets given) →
-    (any : Any) (answer : Result T Error) → IsReadAs IsDerElement reads any answer →
-    IsReadAs IsDerElement (λ octets given. more octets given × reads octets given) any answer
+    (any : Any) (answer : Result T Error) → IsReadAgain IsDerElement reads any answer →
+    IsReadAgain IsDerElement (λ octets given. more octets given × reads octets given) any answer
 read_also reads more follows any (Ok x) g octets rest begins =
     let h = g octets rest begins in (follows octets (Ok (rest, x)) h, h)
 read_also reads more follows any (Err e) g octets rest begins =

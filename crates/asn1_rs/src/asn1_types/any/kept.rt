@@ -4,7 +4,7 @@ ghost use Rattle.asn1_headers.specs.Header.{tag_of, LendsRawTag};
 ghost use Rattle.asn1_rs.specs.Any.{parts_of, IsDefiniteOr, IsTheElement};
 ghost use Rattle.asn1_rs.specs.Any.Kept.{as_element, kept_content, kept_element, kept_element_writing};
 ghost use Rattle.asn1_rs.specs.Copies.{IsCopyOfHeader};
-ghost use Rattle.asn1_rs.specs.Kinds.{HoldingGives};
+ghost use Rattle.asn1_rs.specs.Kinds.{InnerGives};
 ghost use Rattle.asn1_rs.specs.Laws.Any.Kept.{kept_element_converts, kept_element_lawful};
 ghost use Rattle.asn1_rs.specs.Laws.Any.Kept.{kept_element_lawful_writing, kept_elements_same};
 ghost use Rattle.asn1_rs.specs.Laws.Any.Value.{element_checks};
@@ -94,7 +94,7 @@ impl DynTagged for KeptAny<'_> {
 impl<'a> FromAny<'a> for KeptAny<'a> {
     type Error = Error;
 
-    ghost any_gives = { HoldingGives as_element IsTheElement };
+    ghost any_gives = { InnerGives as_element IsTheElement };
 
     /// The element, whose octets are borrowed.
     #[inline(always)]

@@ -20,7 +20,7 @@ ghost use Rattle.asn1_rs.specs.Any.{parts_of, IsTheElement, IsDefiniteOr, HasCla
 ghost use Rattle.asn1_rs.specs.Any.{HandsOn};
 ghost use Rattle.asn1_headers.specs.Der.{DerContentGives};
 ghost use Rattle.asn1_headers.specs.Ber.{BerContentGives, max_depth};
-ghost use Rattle.asn1_rs.specs.Any.Decoded.{IsReadAs, IsWordInHand};
+ghost use Rattle.asn1_rs.specs.Any.Decoded.{IsReadAgain, IsWordInHand};
 ghost use Rattle.asn1_rs.specs.Any.Value.{any_element};
 ghost use Rattle.asn1_rs.specs.Grammar.Item.{ber_words};
 ghost use Rattle.asn1_rs.specs.Traits.{BerGives};
@@ -170,7 +170,7 @@ impl<'a> Any<'a> {
         T: LawfulDer<'a, Error> + HasReader + DecodesBy<'a, T::Reader>,
         ensures exact { IsWordInHand IsDerElement T.grammar.Der T.grammar.value T.grammar.allocates
             self.entry result }
-        ensures gives { IsReadAs IsDerElement T.der_gives self.entry result }
+        ensures gives { IsReadAgain IsDerElement T.der_gives self.entry result }
         ensures by_hand { T.decode_gives self.entry result }
     {
         T::decode_element(alloc, self)
@@ -181,7 +181,7 @@ impl<'a> Any<'a> {
     pub fn decode_ber<T: LawfulBody<'a, Error>>(self, alloc: Global) -> Result<T, Error>
         ensures exact { IsWordInHand (IsElement max_depth) (ber_words T.grammar) T.grammar.value
             T.grammar.allocates self.entry result }
-        ensures gives { IsReadAs (IsElement max_depth) (BerGives T.any_gives (λ e f. f ≡ e))
+        ensures gives { IsReadAgain (IsElement max_depth) (BerGives T.any_gives (λ e f. f ≡ e))
             self.entry result }
         ensures by_hand { T.any_gives self.entry result }
     {

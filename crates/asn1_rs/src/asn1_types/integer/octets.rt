@@ -6,7 +6,8 @@ ghost use Rattle.asn1_rs.specs.Any.{parts_of};
 ghost use Rattle.asn1_headers.specs.Header.{HasParts};
 ghost use Rattle.asn1_rs.specs.Integer.{integer_number, IntegerCheckGives};
 ghost use Rattle.asn1_rs.specs.Integer.Machine.{GivesBack};
-ghost use Rattle.asn1_rs.specs.Integer.Octets.{octets_held, integer_octets, any_integer_leaf, BorrowsOctets, HoldsOr};
+ghost use Rattle.asn1_rs.specs.Integer.Octets.{content_slice, integer_octets, any_integer_leaf, BorrowsOctets};
+ghost use Rattle.asn1_rs.specs.Integer.Octets.{HasContentOr};
 ghost use Rattle.asn1_rs.specs.Leaf.{LeafGives};
 ghost use Rattle.asn1_rs.specs.Laws.Integer.Octets.{any_integer_lawful, octets_equal};
 ghost use Rattle.asn1_rs.specs.LeafReading.{lent_reading};
@@ -51,7 +52,7 @@ impl<'a> Integer<'a> {
 
     /// The integer of these contents octets, as they are held.
     pub(crate) const fn of_cow(octets: CowSlice<'a, u8, Global>) -> Self
-        ensures { octets_held result ≡ octets.entry }
+        ensures { content_slice result ≡ octets.entry }
     {
         Integer { octets }
     }
@@ -80,7 +81,7 @@ impl Integer<'static> {
     ///
     /// Refused where memory is, with `OutOfMemory`.
     pub fn from<M: MachineInt>(alloc: Global, x: M) -> Result<Integer<'static>, Error>
-        ensures strict { HoldsOr (M.machine.number x) result }
+        ensures strict { HasContentOr (M.machine.number x) result }
         ensures back { IfOk result (λ i. GivesBack M.machine x (integer_octets i)) }
     {
         let mut octets = [0; 17];
@@ -99,7 +100,7 @@ impl Integer<'static> {
         b: [u8; N],
     ) -> Result<Integer<'static>, Error>
         requires { 1 ≤ N }
-        ensures { HoldsOr (pos (base_256_value b.entry)) result }
+        ensures { HasContentOr (pos (base_256_value b.entry)) result }
     {
         let (sign, digits) = natural_parts(&b);
         let mut octets = Vec::from_slice(alloc, sign)?;
@@ -145,9 +146,9 @@ impl HasKind for Integer<'_> {
 impl LeafType for Integer<'_> {
     type Number = TagNumber<2>;
 
-    ghost reading = { lent_reading any_integer_leaf octets_held };
+    ghost reading = { lent_reading any_integer_leaf content_slice };
 
-    ghost exact = { lent_exact any_integer_leaf any_integer_lawful octets_held };
+    ghost exact = { lent_exact any_integer_leaf any_integer_lawful content_slice };
 
     fn assert_leaf_valid(&self) {
         assert_octets_valid(self.as_bytes());

@@ -4,7 +4,7 @@ ghost use Rattle.std.proofs.Common.{lit<, refl};
 ghost use Rattle.std.specs.BTreeSet.{IsFromIterResult};
 ghost use Rattle.x690.specs.Identifiers.{IsTruncatedIdentifier};
 ghost use Rattle.asn1_headers.specs.Ber.{EndsWithin};
-ghost use Rattle.asn1_rs.specs.Lists.{IsListOr, ListTakes};
+ghost use Rattle.asn1_rs.specs.Lists.{IsListOr, ListConverts};
 ghost use Rattle.asn1_rs.specs.Traits.{DerGives, OfParts, PassesAll};
 ghost use Rattle.asn1_rs.specs.Set.{set_of, ascends};
 ghost use Rattle.asn1_headers.specs.declared.error.Error.{Error};
@@ -118,7 +118,7 @@ impl<T: Ord + Drop> FromItems for BTreeSet<T> {
 // itself. By a reader that it names it passes these several times more, and nests less deep.
 impl<'a, T: FromDer<'a, E> + Ord + Drop, E: From<Error>> FromDer<'a, E> for BTreeSet<T> {
     ghost der_gives = { DerGives PassesAll
-        (OfParts (ListTakes (IsListOr 17) (λ items s. IsFromIterResult T.cmp items s) T.der_gives
+        (OfParts (ListConverts (IsListOr 17) (λ items s. IsFromIterResult T.cmp items s) T.der_gives
         E.from_gives))
         E.from_gives };
 

@@ -6,7 +6,7 @@ ghost use Rattle.asn1_rs.specs.Checks.{is_primitive};
 ghost use Rattle.asn1_rs.specs.Leaf.{HaveOneRefusal};
 ghost use Rattle.asn1_rs.specs.Laws.Leaf.{leaf_written};
 ghost use Rattle.asn1_rs.specs.Laws.Strings.{string_equal, string_exact, string_lawful};
-ghost use Rattle.asn1_rs.specs.Strings.{StringGives, string_leaf, string_reading, text_of};
+ghost use Rattle.asn1_rs.specs.Strings.{StringGives, string_leaf, string_reading, string_text};
 
 use crate::asn1_types::any::Any;
 use crate::asn1_types::strings::kinds::{
@@ -84,7 +84,7 @@ impl<'a, K: StringKind<Characters: Repertoire>> ConvertsLeaf<'a> for RestrictedS
 }
 
 impl<K: StringKind<Characters: Repertoire>> WritesOctets for RestrictedString<'_, K> {
-    ghost held = { text_of };
+    ghost held = { string_text };
 
     fn contents_octets(&self) -> &[u8] {
         self.as_str().as_bytes()
@@ -103,7 +103,7 @@ impl DerElement for RestrictedString<'_, Utf8Kind> {
 impl<K: StringKind<Characters: Repertoire>> RestrictedString<'_, K> {
     /// Whether the type has the text.
     pub(crate) fn has_its_characters(&self) -> bool
-        ensures { IsTrue result ↔ K.Characters.IsText (text_of self.now) }
+        ensures { IsTrue result ↔ K.Characters.IsText (string_text self.now) }
     {
         K::Characters::is_text(self.as_str().as_bytes())
     }

@@ -5,7 +5,7 @@ ghost use Rattle.asn1_headers.specs.Answers.{seen};
 ghost use Rattle.asn1_rs.specs.Any.{parts_of, BerElementGives};
 ghost use Rattle.asn1_rs.specs.Any.Decoded.{DecodesExplicit};
 ghost use Rattle.asn1_rs.specs.Laws.Any.Decoded.{explicit_reads};
-ghost use Rattle.asn1_rs.specs.Tagged.Explicit.{ExplicitTakes, ExplicitReads, ExplicitGives, ExplicitCheckGives};
+ghost use Rattle.asn1_rs.specs.Tagged.Explicit.{ExplicitConverts, ExplicitReads, ExplicitGives, ExplicitCheckGives};
 ghost use Rattle.asn1_rs.specs.Tagged.Explicit.{InnerTakes, tag_checks, explicit_grammar};
 ghost use Rattle.asn1_rs.specs.Laws.Tagged.{number_fits, same_beside_nothing};
 ghost use Rattle.asn1_rs.specs.Laws.Tagged.Explicit.{explicit_lawful, explicit_number, explicit_takes_class};
@@ -130,7 +130,7 @@ where
     type Refusal = E;
 
     ghost gives_by_kind = { OfParts
-        (ExplicitTakes CLASS TAG (λ t. t.inner) T.ber_gives E.from_gives) };
+        (ExplicitConverts CLASS TAG (λ t. t.inner) T.ber_gives E.from_gives) };
 
     fn convert_by_kind(alloc: Global, any: Any<'a>) -> Result<Self, E> {
         if let Err(e) = assert_tagged(CLASS, TAG, &any) {
@@ -153,7 +153,7 @@ impl<'a> Any<'a> {
     where
         T: FromBer<'a, E> + Drop,
         E: From<Error>,
-        ensures { ExplicitTakes CLASS TAG (λ t. t.inner) T.ber_gives E.from_gives
+        ensures { ExplicitConverts CLASS TAG (λ t. t.inner) T.ber_gives E.from_gives
             (parts_of self.now) result }
     {
         TaggedValue::try_from_any(alloc, without_raw_tag(self))

@@ -13,7 +13,7 @@ ghost use Rattle.asn1_rs.specs.Laws.Tagged.{number_fits, same_beside_nothing};
 ghost use Rattle.asn1_rs.specs.Laws.Tagged.Implicit.{implicit_lawful, implicit_number, implicit_takes_class};
 ghost use Rattle.asn1_rs.specs.Laws.Tagged.Implicit.{implicit_takes, implicit_takes_no_memory, implicit_checked};
 ghost use Rattle.asn1_rs.specs.Optional.{IsWithoutRawTag};
-ghost use Rattle.asn1_rs.specs.Tagged.Implicit.{ImplicitBody, ImplicitTakes, ImplicitCheckGives, ChecksUnder};
+ghost use Rattle.asn1_rs.specs.Tagged.Implicit.{ImplicitBody, ImplicitConverts, ImplicitCheckGives, ChecksUnder};
 ghost use Rattle.asn1_rs.specs.Tagged.Implicit.{implicit_checks, implicit_grammar};
 ghost use Rattle.asn1_rs.specs.Traits.{DerGives, PassesAll};
 ghost use Rattle.asn1_rs.specs.Laws.Writing.{implicit_lawful_writing};
@@ -112,7 +112,7 @@ where
 {
     type Refusal = E;
 
-    ghost gives_by_kind = { ImplicitTakes CLASS TAG (λ t. t.inner) T.TAG T.any_gives
+    ghost gives_by_kind = { ImplicitConverts CLASS TAG (λ t. t.inner) T.TAG T.any_gives
         E.from_gives };
 
     fn convert_by_kind(alloc: Global, any: Any<'a>) -> Result<Self, E> {
@@ -140,7 +140,7 @@ impl<'a> Any<'a> {
         T: FromAny<'a, Error = E> + Tagged,
         E: From<Error>,
         ensures { (bare : Any) × IsWithoutRawTag self.now bare ×
-            ImplicitTakes CLASS TAG (λ t. t.inner) T.TAG T.any_gives E.from_gives bare result }
+            ImplicitConverts CLASS TAG (λ t. t.inner) T.TAG T.any_gives E.from_gives bare result }
     {
         TaggedValue::try_from_any(alloc, without_raw_tag(self))
     }
@@ -153,7 +153,7 @@ where
     T: FromAny<'a, Error = E> + Tagged,
     E: From<Error>,
 {
-    ghost gives_by_reader = { DerGives PassesAll (ImplicitTakes CLASS TAG (λ t. t.inner) T.TAG
+    ghost gives_by_reader = { DerGives PassesAll (ImplicitConverts CLASS TAG (λ t. t.inner) T.TAG
         T.any_gives E.from_gives) E.from_gives };
 
     #[inline(always)]
@@ -172,7 +172,7 @@ impl<'a, T, const CLASS: u8, const TAG: u32> DecodesBy<'a, TagMark<Implicit>>
 where
     T: FromAny<'a, Error = Error> + Tagged,
 {
-    ghost decode_gives = { ImplicitTakes CLASS TAG (λ t. t.inner) T.TAG T.any_gives
+    ghost decode_gives = { ImplicitConverts CLASS TAG (λ t. t.inner) T.TAG T.any_gives
         (λ e f. f ≡ e) };
 
     fn decode_element(alloc: Global, any: Any<'a>) -> Result<Self, Error> {
@@ -180,7 +180,7 @@ where
     }
 
     ghost decodes = { converted_reads IsDerElement DerElementFault der_refusal
-        (ImplicitTakes CLASS TAG (λ t. t.inner) T.TAG T.any_gives (λ e f. f ≡ e)) };
+        (ImplicitConverts CLASS TAG (λ t. t.inner) T.TAG T.any_gives (λ e f. f ≡ e)) };
 }
 
 /// Checks an element under the tag number of the value's type.
@@ -288,7 +288,7 @@ where
     E: From<Error>,
 {
     ghost exact_by_reader = { λ input answer octets. unchecked_exact
-        (ImplicitTakes CLASS TAG (λ t. t.inner) T.TAG T.any_gives E.from_gives) E.from_gives
+        (ImplicitConverts CLASS TAG (λ t. t.inner) T.TAG T.any_gives E.from_gives) E.from_gives
         (ImplicitBody CLASS TAG (T.TAG).0 T.grammar.Body) (λ t. T.grammar.value t.inner)
         T.grammar.allocates (implicit_takes CLASS TAG (λ t. t.inner) T.TAG T.any_gives
         E.from_gives T.grammar.Body T.grammar.value T.grammar.allocates T.body_exact) input
@@ -296,7 +296,7 @@ where
 
     ghost no_memory_by_reader = { λ none. element_no_memory IsDerElement DerElementFault der_violation
         der_violation_no_memory PassesAll
-        (ImplicitTakes CLASS TAG (λ t. t.inner) T.TAG T.any_gives E.from_gives) E.from_gives
+        (ImplicitConverts CLASS TAG (λ t. t.inner) T.TAG T.any_gives E.from_gives) E.from_gives
         all_pass (implicit_takes_no_memory {W = Self} CLASS TAG (λ t. t.inner) T.TAG T.any_gives
         E.from_gives (T.body_no_memory none)) };
 }
