@@ -1,4 +1,5 @@
 //! A search (RFC 4511, 4.5.1).
+ghost use Rattle.std.specs.Prelude.{◌≤◌};
 ghost use Rattle.asn1_rs.specs.Prelude.{MadeOf};
 ghost use Rattle.asn1_rs_ldap.specs.Endings.{wanted_of};
 ghost use Rattle.asn1_rs_ldap.specs.Searches.{search_laws};
@@ -10,7 +11,17 @@ use asn1_rs::author::{
     StructReader, row_by_ber,
 };
 use asn1_rs::{BerParser, Enumerated, Error, OctetString, SerializeResult};
+use asn1_rs_profiles::{Range, Refined};
 use std::alloc::Global;
+
+/// How deep a search goes: to its base alone (0), one level below, or to all below.
+pub type Scope = Refined<Enumerated, Range<0, 2>>;
+
+/// Where a server follows aliases: nowhere (0), below the base, to find the base, or at both.
+pub type DerefAliases = Refined<Enumerated, Range<0, 3>>;
+
+/// How many entries, or how many seconds, up to `maxInt`. No limit is 0.
+pub type Limit = Refined<u32, Range<0, 0x7fff_ffff>>;
 
 /// A search: where it begins, how deep it goes, and what it wants of which entries.
 ///
@@ -18,18 +29,18 @@ use std::alloc::Global;
 ///         baseObject    LDAPDN,
 ///         scope         ENUMERATED,
 ///         derefAliases  ENUMERATED,
-///         sizeLimit     INTEGER (0 .. maxInt),
-///         timeLimit     INTEGER (0 .. maxInt),
+///         sizeLimit     INTEGER,
+///         timeLimit     INTEGER,
 ///         typesOnly     BOOLEAN,
 ///         filter        Filter,
 ///         attributes    AttributeSelection }
 #[derive(Debug, PartialEq, Drop)]
 pub struct SearchRequest<'a> {
     pub base_object: OctetString<'a>,
-    pub scope: Enumerated,
-    pub deref_aliases: Enumerated,
-    pub size_limit: u32,
-    pub time_limit: u32,
+    pub scope: Scope,
+    pub deref_aliases: DerefAliases,
+    pub size_limit: Limit,
+    pub time_limit: Limit,
     pub types_only: bool,
     pub filter: Filter<'a>,
     pub attributes: Vec<OctetString<'a>>,
@@ -38,7 +49,7 @@ pub struct SearchRequest<'a> {
 /// Its fields: where it searches and up to which limits, and what it wants.
 pub type SearchRow<'a> = (
     OctetString<'a>,
-    (Enumerated, (Enumerated, (u32, (u32, Wanted<'a>)))),
+    (Scope, (DerefAliases, (Limit, (Limit, Wanted<'a>)))),
 );
 
 impl HasKind for SearchRequest<'_> {
@@ -97,4 +108,14 @@ impl<'a> ReadsFieldsByBer<'a> for SearchRequest<'a> {
             Err(e) => Err(e),
         }
     }
+}
+
+impl SearchRequest<'_> {
+    /// Each search in hand has a scope, aliases and limits that RFC 4511 allows.
+    pub fn has_numbers(&self)
+        ensures scope { self.now.scope.value.0 ≤ 2 }
+        ensures aliases { self.now.deref_aliases.value.0 ≤ 3 }
+        ensures entries { self.now.size_limit.value ≤ 2147483647 }
+        ensures seconds { self.now.time_limit.value ≤ 2147483647 }
+    {}
 }
