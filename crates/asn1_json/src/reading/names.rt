@@ -1,5 +1,5 @@
 //! The members of objects, by the names of parts.
-ghost use Rattle.std.specs.Prelude.{◌≡◌, None, Some, IfOk, IfSome, MatchOption, OnOk, true, string_bytes};
+ghost use Rattle.std.specs.Prelude.{◌≡◌, None, Some, IfOk, IfSome, MatchOption, MatchResult, false, true, string_bytes};
 ghost use Rattle.json.specs.Find.{get_member};
 ghost use Rattle.json.specs.Json.{member, no_members};
 ghost use Rattle.json.specs.Value.{members_view, value_view};
@@ -7,6 +7,7 @@ ghost use Rattle.asn1_json.specs.Denotes.{AreNamed, IsNameOfField, IsNameOfPart,
 ghost use Rattle.asn1_json.specs.Tokens.{name_of_arm, name_of_field, seen, type_of_unknown};
 ghost use Rattle.asn1_json.specs.Types.{arms_of, kind_at, or_name};
 ghost use Rattle.asn1_words.specs.Words.{number_text};
+ghost use Rattle.asn1_json.specs.declared.reading.trail.Fault.TheVariants as faults;
 
 use crate::leaves::count_text;
 use crate::reading::trail::{Fault, Reason, Step, Trail};
@@ -92,8 +93,8 @@ pub(super) fn arm_named(
     choice: usize,
     name: &str,
 ) -> Result<Option<usize>, AllocError>
-    ensures { IfOk result (λ found. IfSome found (λ arm. arm_from (seen types.entry) choice name.now
-        (arms_of (kind_at types.entry.table.now (Some choice))) 0 ≡ Some arm)) }
+    ensures { IfOk result (λ found. found ≡ arm_from (seen types.entry) choice name.now
+        (arms_of (kind_at types.entry.table.now (Some choice))) 0) }
 {
     for arm in 0..types.arms(Some(choice)).len() {
         let own = arm_name(alloc, types, choice, arm)?;
@@ -129,7 +130,9 @@ fn has_field_named(
     row: usize,
     name: &str,
 ) -> Result<bool, AllocError>
-    ensures { IfOk result (λ is. is ≡ true → IsNameOfField (seen types.entry) row name.now) }
+    ensures is { IfOk result (λ is. is ≡ true → IsNameOfField (seen types.entry) row name.now) }
+    ensures other { IfOk result (λ is. is ≡ false →
+        ¬ IsNameOfField (seen types.entry) row name.now) }
 {
     for place in 0..types.fields(Some(row)).len() {
         let own = field_name(alloc, types, row, place)?;
@@ -147,8 +150,11 @@ fn is_name_of_part(
     row: usize,
     name: &str,
 ) -> Result<bool, AllocError>
-    ensures { IfOk result (λ is. is ≡ true →
+    ensures is { IfOk result (λ is. is ≡ true →
         IsNameOfPart (seen types.entry) row
+        (type_of_unknown (seen types.entry) (Some row)) name.now) }
+    ensures other { IfOk result (λ is. is ≡ false →
+        ¬ IsNameOfPart (seen types.entry) row
         (type_of_unknown (seen types.entry) (Some row)) name.now) }
 {
     if let Some(_of) = types.of_unknown(Some(row)) {
@@ -168,7 +174,10 @@ pub(super) fn judge_names<'a>(
     members: &[(&'a str, Value<'a>)],
     trail: &mut Trail,
 ) -> Result<(), Fault>
-    ensures { OnOk result (AreNamed (seen types.entry) row
+    ensures { MatchResult result
+        (λ _. AreNamed (seen types.entry) row (type_of_unknown (seen types.entry) (Some row))
+        (members_view members.now))
+        (λ fault. fault ≡ faults.Refused → ¬ AreNamed (seen types.entry) row
         (type_of_unknown (seen types.entry) (Some row)) (members_view members.now)) }
 {
     let mut rest = members;

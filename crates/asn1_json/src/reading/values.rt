@@ -1,21 +1,24 @@
 //! Values with parts, from JSON.
-ghost use Rattle.std.specs.Prelude.{ℕ, ◌≡◌, true, IfOk, OnOk, Option, Some, codes, length, map};
+ghost use Rattle.std.specs.Prelude.{ℕ, ◌≡◌, true, IfErr, IfOk, OnOk, Option, Some, codes, length, map};
 ghost use Rattle.json.specs.Find.{get_member};
 ghost use Rattle.json.specs.Value.{members_view, value_view};
 ghost use Rattle.asn1_schema.specs.Grammar.{Word};
 ghost use Rattle.asn1_schema.specs.Rules.{der};
 ghost use Rattle.asn1_schema.specs.Sound.{is_sound};
+ghost use Rattle.asn1_schema.specs.Values.{Value as SpecValue, Values};
 ghost use Rattle.asn1_json.specs.Denotes.{Denotes, DenotesChosen, DenotesKind, DenotesRow, DenoteUnknown};
 ghost use Rattle.asn1_json.specs.Outcomes.{AreMembers, DenoteFirst, DenotesItems, DenotesList, DenotesOnce};
 ghost use Rattle.asn1_json.specs.Outcomes.{DenotesSet, LeftOutOnce, Makes, MakesRow, document_of};
 ghost use Rattle.asn1_json.specs.Tokens.{name_of_field, seen, type_of_unknown};
 ghost use Rattle.asn1_json.specs.Types.{arms_of, fields_of, kind_at};
+ghost use Rattle.asn1_json.specs.declared.reading.trail.Fault.TheVariants as faults;
 
 use crate::reading::arranged::{Member, arrange, encoded, put_members};
 use crate::reading::leaf::{By, judge, read_leaf};
 use crate::reading::names::{arm_named, judge_names, member_named, member_of_field, only_member};
 use crate::reading::trail::{Fault, Reason, Step, Trail};
 use asn1_schema::decode::{DecodeError, decode_der_whole};
+use asn1_schema::laws::words_by_der_are_determined;
 use asn1_schema::owned::OwnedTape;
 use asn1_schema::refusal::Refusal;
 use asn1_schema::schema::{Field, Kind, Presence};
@@ -31,9 +34,12 @@ fn put_default(
     trail: &mut Trail,
 ) -> Result<(), Fault>
     requires sound { is_sound by.types.table.now ≡ true }
-    ensures { OnOk result (Makes (Word der by.entry.types.table.now by.entry.depth of octets.now)
-        made.old made.new) }
+    ensures made { OnOk result (Makes
+        (Word der by.entry.types.table.now by.entry.depth of octets.now) made.old made.new) }
+    ensures refused { IfErr result (λ fault. fault ≡ faults.Refused → (v : SpecValue) →
+        ¬ Word der by.entry.types.table.now by.entry.depth of octets.now v) }
 {
+    words_by_der_are_determined();
     let mut tape = Vec::new(by.alloc);
     let mut refusal = Refusal::none();
     match decode_der_whole(
@@ -63,8 +69,10 @@ fn leave_out(
     trail: &mut Trail,
 ) -> Result<(), Fault>
     requires sound { is_sound by.types.table.now ≡ true }
-    ensures { OnOk result (MakesRow (LeftOutOnce by.entry.types.table.now by.entry.depth field.now)
-        made.old made.new) }
+    ensures made { OnOk result (MakesRow
+        (LeftOutOnce by.entry.types.table.now by.entry.depth field.now) made.old made.new) }
+    ensures refused { IfErr result (λ fault. fault ≡ faults.Refused → (vs : Values) →
+        ¬ LeftOutOnce by.entry.types.table.now by.entry.depth field.now vs) }
 {
     match &field.presence {
         Presence::Required => Err(trail.lacks(field.of, row, place)),

@@ -68,7 +68,7 @@ read_choice-returns t c =
       v,
       ap value_view c.in-Object.is ∙ view-Object c.in-Object.members ∙ ap (λ l. object (members_view l)) (sym c.as_slice.ensures.value) ∙ ap object c.in-Some.ensures,
       refl,
-      some_is _ _ c.in_ok-arm.field-0 arm c.in-Some-2.is c.in_ok-arm.ensures,
+      sym c.in_ok-arm.ensures ∙ c.in-Some-2.is,
       sym c.of_arm.ensures ∙ c.in-Some-of_arm.is,
       d,
     ))
@@ -216,7 +216,7 @@ read_field-returns-in-None t c =
     let found = get_member (name_of_field types (Some c.args.row) c.args.place) (members_view c.args.members.now) in
     let e : found ≡ None = none_is _ _ c.in_ok-member_of_field.field-0 c.in-None.is c.in_ok-member_of_field.ensures in
     subst (λ o. OnOk c.leave_out.result (MakesRow (DenotesOnce types c.args.by.depth Sub c.args.field.now o) c.args.made.now c.leave_out.new.made))
-    (sym e) c.leave_out.ensures
+    (sym e) c.leave_out.ensures.made
 
 pub read_field-returns-in_ok-read_value-in-Some : goal.read_field-returns-in_ok-read_value-in-Some
 read_field-returns-in_ok-read_value-in-Some t c =

@@ -7,18 +7,31 @@ use Rattle.asn1_schema.specs.Values.{Values, none, absent, more}
 use Rattle.asn1_json.specs.Outcomes.{LeftOutOnce, Makes, MakesRow}
 use Rattle.asn1_json.proofs.ByKind.{on_ok}
 use Rattle.asn1_json.proofs.Rows.{row_of_absent, row_of_one}
+use Rattle.asn1_json.proofs.NoDefault.{if_err, no_default, not_left}
 use Rattle.asn1_json.proofs.reading.values.leave_out.Goals as goal
 
-pub returns-in_ok-push-in-Optional : goal.returns-in_ok-push-in-Optional
-returns-in_ok-push-in-Optional c =
+pub returns-in_ok-push-in-Optional-clause-made : goal.returns-in_ok-push-in-Optional-clause-made
+returns-in_ok-push-in-Optional-clause-made c =
     let B = Body der c.args.by.types.table.now c.args.by.depth c.args.field.now.of in
     row_of_absent (LeftOutOnce c.args.by.types.table.now c.args.by.depth c.args.field.now) c.args.made.now c.push.new.self c.in_ok-push-in-Optional.ensures
     (subst (λ (p : Presence). LeftOut der B p (absent none) (λ rest. rest ≡ none)) (sym c.in-Optional.is) refl)
 
-pub returns-in-Default : goal.returns-in-Default
-returns-in-Default c =
+pub returns-in-Default-clause-made : goal.returns-in-Default-clause-made
+returns-in-Default-clause-made c =
     let B = Body der c.args.by.types.table.now c.args.by.depth c.args.field.now.of in
     on_ok c.put_default.result _ _ (λ m. row_of_one (Word der c.args.by.types.table.now c.args.by.depth c.args.field.now.of c.deref.result.now)
     (LeftOutOnce c.args.by.types.table.now c.args.by.depth c.args.field.now) c.args.made.now c.put_default.new.made m
     (λ v w. subst (λ (p : Presence). LeftOut der B p (more v none) (λ rest. rest ≡ none)) (sym c.in-Default.is)
-    (subst (λ o. Word der c.args.by.types.table.now c.args.by.depth c.args.field.now.of o v) c.deref.ensures.value w, refl))) c.put_default.ensures
+    (subst (λ o. Word der c.args.by.types.table.now c.args.by.depth c.args.field.now.of o v) c.deref.ensures.value w, refl))) c.put_default.ensures.made
+
+pub returns-in-Required-clause-refused : goal.returns-in-Required-clause-refused
+returns-in-Required-clause-refused c = λ refused vs l.
+    let B = Body der c.args.by.types.table.now c.args.by.depth c.args.field.now.of in
+    not_left B vs (λ rest. rest ≡ none) (subst (λ (p : Presence). LeftOut der B p vs (λ rest. rest ≡ none)) c.in-Required.is l)
+
+pub returns-in-Default-clause-refused : goal.returns-in-Default-clause-refused
+returns-in-Default-clause-refused c =
+    let B = Body der c.args.by.types.table.now c.args.by.depth c.args.field.now.of in
+    if_err _ _ c.put_default.result (λ fault no refused vs l. no_default B _ vs (λ rest. rest ≡ none)
+    (λ v w. no refused v (subst (λ o. Word der c.args.by.types.table.now c.args.by.depth c.args.field.now.of o v) (sym c.deref.ensures.value) w))
+    (subst (λ (p : Presence). LeftOut der B p vs (λ rest. rest ≡ none)) c.in-Default.is l)) c.put_default.ensures.refused
