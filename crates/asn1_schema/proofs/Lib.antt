@@ -59,4 +59,5 @@ pub mod WrittenTapes
 pub mod MembersCounted
 pub mod StrictWords
 pub mod Appended
+pub mod Told
 pub mod JoinedBits

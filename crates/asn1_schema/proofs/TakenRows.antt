@@ -339,20 +339,15 @@ module _ (R : Rules) (lawful : AreLawfulRules R) where
         (subst (λ (z : List Field). SoFar (AreFields R Sub unknown z rest) Whole old mid) none_left s) a
 
     -- there are none
-    pub fields_done : (unknown : Option ℕ) (Whole : Values → Type 0) (left : List Field) (rest : List ℕ)
-        (old mid : List Item) → left ≡ [] → SoFar (AreFields R Sub unknown left rest) Whole old mid → unknown ≡ None →
-        rest ≡ [] → PutsRow Whole old mid
-    fields_done unknown Whole left rest old mid none_left s e over =
-        fields_ended {T = Unit {0}} unknown Whole left rest old mid mid (Ok tt) none_left s
-        (subst (λ (z : Option ℕ). PutsRow (AreUnknown R Sub z rest) mid mid) (sym e)
-        (record { kept = kept_none; holds = (over, refl); is = sym (append-nil (marks mid)) }))
+    pub none_behind : (unknown : Option ℕ) (rest : List ℕ) (mid : List Item) → unknown ≡ None → rest ≡ [] →
+        PutsRow (AreUnknown R Sub unknown rest) mid mid
+    none_behind unknown rest mid e over = subst (λ (z : Option ℕ). PutsRow (AreUnknown R Sub z rest) mid mid) (sym e)
+        (record { kept = kept_none; holds = (over, refl); is = sym (append-nil (marks mid)) })
 
-    pub fields_over : (unknown : Option ℕ) (Whole : Values → Type 0) (left : List Field) (rest : List ℕ)
-        (old mid : List Item) → left ≡ [] → SoFar (AreFields R Sub unknown left rest) Whole old mid → unknown ≡ None →
-        (rest ≡ [] → ⊥) → (vs : Values) → Whole vs → ⊥
-    fields_over unknown Whole left rest old mid none_left s e some =
-        fields_ended {T = Unit {0}} unknown Whole left rest old mid mid (Err faults.Refused) none_left s
-        (subst (λ (z : Option ℕ). (vs : Values) → AreUnknown R Sub z rest vs → ⊥) (sym e) (λ vs a. some a.0))
+    pub some_behind : (unknown : Option ℕ) (rest : List ℕ) → unknown ≡ None → (rest ≡ [] → ⊥) → (vs : Values) →
+        AreUnknown R Sub unknown rest vs → ⊥
+    some_behind unknown rest e some =
+        subst (λ (z : Option ℕ). (vs : Values) → AreUnknown R Sub z rest vs → ⊥) (sym e) (λ vs a. some a.0)
 
     -- A field.
     pub field_there : (presence : Presence) (t : ℕ) (octets rest : List ℕ) (p : Parts) (old new : List Item) →

@@ -1,5 +1,5 @@
 -- What the decoder answers.
-use Rattle.std.specs.Prelude.{ℕ, List, [], ◌++◌, ◌≡◌, ◌≢◌, ◌<◌, ◌≤◌, ◌⊎◌, length, Option, Some, None, Result}
+use Rattle.std.specs.Prelude.{ℕ, ◌+◌, List, [], ◌++◌, ◌≡◌, ◌≢◌, ◌<◌, ◌≤◌, ◌⊎◌, length, Option, Some, None, Result}
 use Rattle.std.specs.Prelude.{OnErr, IsErrOf}
 use Rattle.x690.specs.Joined.{NoPrefix}
 use Rattle.x690.specs.Elements.{Parts, BeginsWithElement}
@@ -15,6 +15,7 @@ use Rattle.asn1_schema.specs.declared.refusal.Refusal.{Refusal}
 use Rattle.asn1_schema.specs.declared.schema.Node.{Node}
 use Rattle.asn1_schema.specs.declared.tape.Item.{Item}
 use Rattle.asn1_schema.specs.Values.{Value}
+use Rattle.asn1_schema.specs.Refusals.{IsTold}
 use Rattle.asn1_schema.specs.Tape.{Kept, marks, value_of, tape_of}
 
 -- A word of the grammar begins the octets, and this is the rest. The tape is that of the value of the word.
@@ -35,6 +36,12 @@ pub record IsFollowed (G : List ℕ → Value → Type 0) (octets : List ℕ) : 
   pub rest : List ℕ
   pub front : Front G octets value rest
   pub some : rest ≢ []
+
+-- So it is, and a refusal tells the first octet behind the word.
+pub record IsFollowedAt (G : List ℕ → Value → Type 0) (octets : List ℕ) (refusal : Refusal) : Type 0 where
+  pub followed : IsFollowed G octets
+  pub place : refusal.octet + length followed.rest ≡ length octets
+  pub why : refusal.reason ≡ reasons.TrailingOctets
 
 -- No word of the grammar begins the octets, whatever follows, but where they end within identifier octets.
 pub record HasNoWord (G : List ℕ → Value → Type 0) (is_truncated : Type 0) (octets : List ℕ) : Type 0 where
@@ -58,6 +65,8 @@ pub record Fails {T : Type 0} (table : List Node) (G : ℕ → List ℕ → Valu
   -- the refusal is told of a type of the table, or of one that it does not have
   pub of : IsErrOf result errors.Refused → (refusal.of < length table) ⊎ (refusal.reason ≡ reasons.MissingType)
   pub deep : IsErrOf result errors.TooDeep → refusal.reason ≡ reasons.Depth
+  -- and why is a reason that this type and this field have
+  pub told : IsErrOf result errors.Refused → IsTold table None refusal
 
 -- The octets end within the identifier octets of an element (X.690 8.1.2.4), by BER of one that is nested.
 abbrev pub EndsWithin : Coding → List ℕ → Type 0

@@ -5,7 +5,8 @@ ghost use Rattle.asn1_schema.specs.Grammar.{Word};
 ghost use Rattle.asn1_schema.specs.Rules.{der, ber};
 ghost use Rattle.asn1_schema.specs.Sound.{is_sound};
 ghost use Rattle.asn1_schema.specs.Reading.{rules_of, IsWordOf};
-ghost use Rattle.asn1_schema.specs.Decoding.{Decodes, DecodesWhole, Fails, IsFollowed, EndsWithin, TellsMissing};
+ghost use Rattle.asn1_schema.specs.Decoding.{Decodes, DecodesWhole, Fails, IsFollowed, IsFollowedAt};
+ghost use Rattle.asn1_schema.specs.Decoding.{EndsWithin, TellsMissing};
 ghost use Rattle.asn1_schema.specs.declared.fault.Fault.TheVariants as faults;
 ghost use Rattle.x690.specs.Identifiers.{IsTruncatedIdentifier};
 ghost use Rattle.x690.specs.Nested.{EndsInIdentifier};
@@ -110,6 +111,8 @@ pub fn decode_whole<'a>(
         octets.now tape.new.items refusal.new result }
     ensures trailing { IsErrOf result errors.TrailingOctets →
         IsFollowed (IsWordOf coding table.now depth of) octets.now }
+    ensures trailing_octet { IsErrOf result errors.TrailingOctets →
+        IsFollowedAt (IsWordOf coding table.now depth of) octets.now refusal.new }
 {
     match decode(coding, table, of, depth, octets, tape, refusal) {
         Ok(rest) => {
@@ -132,8 +135,9 @@ pub fn decode_whole<'a>(
 ///
 /// `Refused` says that no word begins the octets to any depth, whatever follows, but where they end within identifier
 /// octets. `TooDeep` says so of this depth alone. `Incomplete(n)` says that none does with fewer than `n` octets more.
-/// So a word that begins the octets is answered with `Ok`, `TooDeep` or `OutOfMemory`. A set-of may be in any order,
-/// and a default may be written: the strict encodings (X.690 11.5, 11.6) are asked for apart.
+/// So a word that begins the octets is answered with `Ok`, `TooDeep` or `OutOfMemory`. After `Refused` the refusal has a
+/// reason that its type and its field may have. A set-of may be in any order, and a default may be written: the strict
+/// encodings (X.690 11.5, 11.6) are asked for apart.
 pub fn decode_der<'a>(
     table: &'a [Node],
     of: usize,
@@ -191,6 +195,8 @@ pub fn decode_der_whole<'a>(
         octets.now tape.new.items refusal.new result }
     ensures trailing { IsErrOf result errors.TrailingOctets →
         IsFollowed (Word der table.now depth of) octets.now }
+    ensures trailing_octet { IsErrOf result errors.TrailingOctets →
+        IsFollowedAt (Word der table.now depth of) octets.now refusal.new }
 {
     decode_whole(Coding::Der, table, of, depth, octets, tape, refusal)
 }
@@ -212,6 +218,8 @@ pub fn decode_ber_whole<'a>(
         (EndsInIdentifier max octets.now) octets.now tape.new.items refusal.new result }
     ensures trailing { IsErrOf result errors.TrailingOctets →
         IsFollowed (Word (ber max) table.now depth of) octets.now }
+    ensures trailing_octet { IsErrOf result errors.TrailingOctets →
+        IsFollowedAt (Word (ber max) table.now depth of) octets.now refusal.new }
 {
     decode_whole(Coding::Ber(max), table, of, depth, octets, tape, refusal)
 }

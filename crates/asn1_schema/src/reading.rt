@@ -1,5 +1,8 @@
 //! One reader for all types of all sound tables, by DER and by BER.
-ghost use Rattle.std.specs.Prelude.{ℕ, List, ◌≡◌, ◌<◌, true, false, length, IfOk};
+ghost use Rattle.std.specs.Prelude.{ℕ, List, ◌≡◌, ◌<◌, true, false, length, IfOk, Err, Some, None};
+ghost use Rattle.asn1_schema.specs.declared.fault.Fault.TheVariants as faults;
+ghost use Rattle.asn1_schema.specs.Refusals.{IsTold, HasFieldsAt, HasElementsAt, IsSetAt};
+ghost use Rattle.asn1_schema.specs.Grammar.{AreUnknown};
 ghost use Rattle.asn1_schema.specs.Sound.{is_sound, fields_told, arms_told, all_before};
 ghost use Rattle.asn1_schema.specs.Reading.{rules_of, parts_of, IsBody, IsArmOf, AreFieldsOf, AreItemsOf};
 ghost use Rattle.asn1_schema.specs.Reading.{IsRowOf, IsWordOf, BeginsWord, ReadsValue, ReadsRow, ReadsFront};
@@ -38,9 +41,10 @@ fn read_body<'a>(
     refusal: &mut Refusal,
 ) -> Result<(), Fault>
     requires { is_sound nodes.now ≡ true }
-    ensures { (d : ℕ) → HoldsAt depth result d →
+    ensures value { (d : ℕ) → HoldsAt depth result d →
         ReadsValue (IsBody coding nodes.now d of (parts_of head content.now))
         tape.old.items tape.new.items result }
+    ensures told { result ≡ Err faults.Refused → IsTold nodes.now None refusal.new }
 {
     let Some(node) = node_at(nodes, of) else {
         refusal.tell(head.start, of, Reason::MissingType);
@@ -205,9 +209,10 @@ fn read_choice<'a>(
     requires told { arms_told nodes.now arms.now ≡ true }
     requires within { of < length nodes.now }
     requires order { all_before of arms.now ≡ true }
-    ensures { (d : ℕ) → HoldsAt depth result d →
+    ensures value { (d : ℕ) → HoldsAt depth result d →
         ReadsValue (IsArmOf coding nodes.now d arms.now (parts_of head content.now))
         tape.old.items tape.new.items result }
+    ensures told { result ≡ Err faults.Refused → IsTold nodes.now None refusal.new }
 {
     let Some((k, arm)) = arm_of(nodes, arms, head) else {
         refusal.tell(head.start, of, Reason::Tag);
@@ -240,6 +245,7 @@ pub(crate) fn read_front<'a>(
         ReadsFront (BeginsWord coding nodes.now d of octets.now)
         tape.old.items tape.new.items result }
     ensures shorter { IfOk result (λ rest. length rest.now < length octets.now) }
+    ensures told { result ≡ Err faults.Refused → IsTold nodes.now None refusal.new }
 {
     let Some((rest, head, content)) = element(coding, octets, at) else {
         refusal.tell(at, of, Reason::Element);
@@ -264,9 +270,10 @@ fn read_whole<'a>(
     refusal: &mut Refusal,
 ) -> Result<(), Fault>
     requires { is_sound nodes.now ≡ true }
-    ensures { (d : ℕ) → HoldsAt depth result d →
+    ensures value { (d : ℕ) → HoldsAt depth result d →
         ReadsValue (IsWordOf coding nodes.now d of octets.now)
         tape.old.items tape.new.items result }
+    ensures told { result ≡ Err faults.Refused → IsTold nodes.now None refusal.new }
 {
     match read_front(coding, nodes, depth, of, octets, at, tape, refusal) {
         Ok(rest) => {
@@ -301,9 +308,11 @@ fn read_row<'a>(
 ) -> Result<(), Fault>
     requires sound { is_sound nodes.now ≡ true }
     requires told { fields_told false nodes.now unknown fields.now ≡ true }
-    ensures { (d : ℕ) → HoldsAt depth result d →
+    ensures value { (d : ℕ) → HoldsAt depth result d →
         ReadsValue (IsRowOf coding nodes.now d unknown fields.now constructed octets.now)
         tape.old.items tape.new.items result }
+    ensures told { HasElementsAt nodes.now of fields.now →
+        result ≡ Err faults.Refused → IsTold nodes.now None refusal.new }
 {
     if !constructed {
         refusal.tell(at, of, Reason::Form);
@@ -336,9 +345,11 @@ fn read_fields<'a>(
 ) -> Result<(), Fault>
     requires sound { is_sound nodes.now ≡ true }
     requires told { fields_told false nodes.now unknown fields.now ≡ true }
-    ensures { (d : ℕ) → HoldsAt depth result d →
+    ensures value { (d : ℕ) → HoldsAt depth result d →
         ReadsRow (AreFieldsOf coding nodes.now d unknown fields.now octets.now)
         tape.old.items tape.new.items result }
+    ensures told { HasFieldsAt nodes.now of fields.now →
+        result ≡ Err faults.Refused → IsTold nodes.now None refusal.new }
 {
     let mut rest = octets;
     let mut left = fields;
@@ -355,32 +366,49 @@ fn read_fields<'a>(
         ) {
             Ok(tail) => rest = tail,
             Err(e) => {
-                refusal.tell_field(fields.len().saturating_sub(left.len()));
+                refusal.tell_field(of, fields.len().saturating_sub(left.len()));
                 return Err(e);
             }
         }
         left = others;
     }
+    read_behind(
+        coding,
+        nodes,
+        depth,
+        unknown,
+        of,
+        rest,
+        further(at, octets.len(), rest.len()),
+        tape,
+        refusal,
+    )
+}
+
+/// Puts the values of unknown elements behind fields on the tape, where there is an extension mark.
+#[cycle(reading)]
+fn read_behind<'a>(
+    coding: Coding,
+    nodes: &'a [Node],
+    depth: usize,
+    unknown: Option<usize>,
+    of: usize,
+    octets: &'a [u8],
+    at: usize,
+    tape: &mut Vec<Item<'a>>,
+    refusal: &mut Refusal,
+) -> Result<(), Fault>
+    requires { is_sound nodes.now ≡ true }
+    ensures value { (d : ℕ) → HoldsAt depth result d →
+        ReadsRow (AreUnknown (rules_of coding) (IsBody coding nodes.now d) unknown octets.now)
+        tape.old.items tape.new.items result }
+    ensures told { result ≡ Err faults.Refused → IsTold nodes.now None refusal.new }
+{
     match unknown {
-        Some(inner) => {
-            read_items(
-                coding,
-                nodes,
-                depth,
-                inner,
-                rest,
-                further(at, octets.len(), rest.len()),
-                tape,
-                refusal,
-            )
-        }
+        Some(inner) => read_items(coding, nodes, depth, inner, octets, at, tape, refusal),
         None => {
-            if !is_at_end(rest) {
-                refusal.tell(
-                    further(at, octets.len(), rest.len()),
-                    of,
-                    Reason::TrailingOctets,
-                );
+            if !is_at_end(octets) {
+                refusal.tell(at, of, Reason::TrailingOctets);
                 return Err(Fault::Refused);
             }
             Ok(())
@@ -401,9 +429,10 @@ fn read_items<'a>(
     refusal: &mut Refusal,
 ) -> Result<(), Fault>
     requires { is_sound nodes.now ≡ true }
-    ensures { (d : ℕ) → HoldsAt depth result d →
+    ensures value { (d : ℕ) → HoldsAt depth result d →
         ReadsRow (AreItemsOf coding nodes.now d of octets.now)
         tape.old.items tape.new.items result }
+    ensures told { result ≡ Err faults.Refused → IsTold nodes.now None refusal.new }
 {
     let mut rest = octets;
     while !is_at_end(rest) {
@@ -437,11 +466,12 @@ fn read_field<'a>(
     refusal: &mut Refusal,
 ) -> Result<&'a [u8], Fault>
     requires { is_sound nodes.now ≡ true }
-    ensures { (d : ℕ) → HoldsAt depth result d →
+    ensures value { (d : ℕ) → HoldsAt depth result d →
         ReadsField (rules_of coding) (IsBody coding nodes.now d field.now.of)
         (BeginsTagged (rules_of coding) nodes.now field.now.of octets.now) field.now.presence
         octets.now
         tape.old.items tape.new.items result }
+    ensures told { result ≡ Err faults.Refused → IsTold nodes.now (Some field.now) refusal.new }
 {
     if let Some((rest, head, content)) = tagged_element(coding, nodes, field.of, octets, at) {
         return match read_body(coding, nodes, depth, field.of, head, content, tape, refusal) {
@@ -467,9 +497,10 @@ fn read_left_out<'a>(
     refusal: &mut Refusal,
 ) -> Result<(), Fault>
     requires { is_sound nodes.now ≡ true }
-    ensures { (d : ℕ) → HoldsAt depth result d →
+    ensures value { (d : ℕ) → HoldsAt depth result d →
         ReadsLeftOut (rules_of coding) (IsBody coding nodes.now d field.now.of) field.now.presence
         tape.old.items tape.new.items result }
+    ensures told { result ≡ Err faults.Refused → IsTold nodes.now (Some field.now) refusal.new }
 {
     match &field.presence {
         Presence::Required => {
@@ -506,9 +537,11 @@ fn read_set<'a>(
 ) -> Result<(), Fault>
     requires sound { is_sound nodes.now ≡ true }
     requires told { fields_told true nodes.now unknown fields.now ≡ true }
-    ensures { (d : ℕ) → HoldsAt depth result d →
+    ensures value { (d : ℕ) → HoldsAt depth result d →
         ReadsValue (IsSetOf coding nodes.now d unknown fields.now constructed octets.now)
         tape.old.items tape.new.items result }
+    ensures told { IsSetAt nodes.now of fields.now →
+        result ≡ Err faults.Refused → IsTold nodes.now None refusal.new }
 {
     if !constructed {
         refusal.tell(at, of, Reason::Form);
@@ -544,17 +577,19 @@ fn read_members<'a>(
 ) -> Result<(), Fault>
     requires sound { is_sound nodes.now ≡ true }
     requires told { fields_told true nodes.now unknown fields.now ≡ true }
-    ensures { (es : List Parts) → AreElements coding octets.now es → (d : ℕ) →
+    ensures value { (es : List Parts) → AreElements coding octets.now es → (d : ℕ) →
         HoldsAt depth result d →
         ReadsRow (AreMembersOf coding nodes.now d unknown fields.now es)
         tape.old.items tape.new.items result }
+    ensures told { HasFieldsAt nodes.now of fields.now →
+        result ≡ Err faults.Refused → IsTold nodes.now None refusal.new }
 {
     let mut left = fields;
     while let Some((field, others)) = left.split_first() {
         match read_member(coding, nodes, depth, field, octets, at, tape, refusal) {
             Ok(()) => (),
             Err(e) => {
-                refusal.tell_field(fields.len().saturating_sub(left.len()));
+                refusal.tell_field(of, fields.len().saturating_sub(left.len()));
                 return Err(e);
             }
         }
@@ -578,10 +613,11 @@ fn read_member<'a>(
     refusal: &mut Refusal,
 ) -> Result<(), Fault>
     requires { is_sound nodes.now ≡ true }
-    ensures { (es : List Parts) → AreElements coding octets.now es → (d : ℕ) →
+    ensures value { (es : List Parts) → AreElements coding octets.now es → (d : ℕ) →
         HoldsAt depth result d →
         ReadsMember (rules_of coding) nodes.now field.now.of (IsBody coding nodes.now d field.now.of)
         field.now.presence es tape.old.items tape.new.items result }
+    ensures told { result ≡ Err faults.Refused → IsTold nodes.now (Some field.now) refusal.new }
 {
     match find_alone(coding, nodes, field.of, octets, at) {
         Found::One(head, content) => {
@@ -610,10 +646,11 @@ fn read_others<'a>(
     refusal: &mut Refusal,
 ) -> Result<(), Fault>
     requires { is_sound nodes.now ≡ true }
-    ensures { (es : List Parts) → AreElements coding octets.now es → (d : ℕ) →
+    ensures value { (es : List Parts) → AreElements coding octets.now es → (d : ℕ) →
         HoldsAt depth result d →
         ReadsRow (AreOthersOf coding nodes.now d unknown (others_than nodes.now fields.now es))
         tape.old.items tape.new.items result }
+    ensures told { result ≡ Err faults.Refused → IsTold nodes.now None refusal.new }
 {
     let mut rest = octets;
     while let Some((tail, head, content)) = element(
@@ -646,9 +683,10 @@ fn read_other<'a>(
     refusal: &mut Refusal,
 ) -> Result<(), Fault>
     requires { is_sound nodes.now ≡ true }
-    ensures { (d : ℕ) → HoldsAt depth result d →
+    ensures value { (d : ℕ) → HoldsAt depth result d →
         ReadsOther coding nodes.now d unknown fields.now (parts_of head content.now)
         tape.old.items tape.new.items result }
+    ensures told { result ≡ Err faults.Refused → IsTold nodes.now None refusal.new }
 {
     if is_of_a_field(nodes, fields, head) {
         return Ok(());

@@ -1,7 +1,10 @@
 //! Where and why octets are refused. It stands beside the result of a call, so that results stay small.
-ghost use Rattle.std.specs.Prelude.{◌<◌, ◌≤◌, ◌+◌, ◌-◌, ◌^◌, ◌≡◌, ◌⊎◌};
+ghost use Rattle.std.specs.Prelude.{◌<◌, ◌≤◌, ◌+◌, ◌-◌, ◌^◌, ◌≡◌, ◌⊎◌, List, length, Some, None};
 ghost use Rattle.asn1_schema.specs.declared.fault.Fault.TheVariants as faults;
 ghost use Rattle.asn1_schema.specs.declared.refusal.Reason.TheVariants as reasons;
+ghost use Rattle.asn1_schema.specs.declared.schema.Field.{Field};
+ghost use Rattle.asn1_schema.specs.declared.schema.Node.{Node};
+ghost use Rattle.asn1_schema.specs.Refusals.{IsTold, HasFieldAt};
 
 use crate::fault::Fault;
 use crate::names::{TypeNames, write_part, write_type};
@@ -58,7 +61,9 @@ pub struct Refusal {
     pub octet: usize,
     /// The place of the type in the table.
     pub of: usize,
-    /// The field, by its place in the innermost sequence or set.
+    /// The innermost sequence or set, by its place in the table, where a field is told.
+    pub row: usize,
+    /// The field, by its place in that sequence or set.
     pub field: Option<usize>,
     /// Why.
     pub reason: Reason,
@@ -78,14 +83,17 @@ impl fmt::Display for RefusalByName<'_, '_> {
         let Refusal {
             octet,
             of,
+            row,
             field,
             reason,
         } = self.refusal;
         write!(f, "octet {octet}, ")?;
-        write_type(f, self.names, of)?;
         if let Some(field) = field {
+            write_type(f, self.names, row)?;
             write!(f, ".")?;
-            write_part(f, self.names.get(of), field)?;
+            write_part(f, self.names.get(row), field)?;
+        } else {
+            write_type(f, self.names, of)?;
         }
         write!(f, ": {reason}")
     }
@@ -107,23 +115,34 @@ impl Refusal {
         Refusal {
             octet: 0,
             of: 0,
+            row: 0,
             field: None,
             reason: Reason::Nothing,
         }
     }
 
     /// Tells a refusal. Who reads fields tells the field.
-    pub(crate) fn tell(&mut self, octet: usize, of: usize, reason: Reason) {
+    pub(crate) fn tell(&mut self, octet: usize, of: usize, reason: Reason)
+        ensures octet { self.new.octet ≡ octet }
+        ensures of { self.new.of ≡ of }
+        ensures reason { self.new.reason ≡ reason }
+        ensures field { self.new.field ≡ None }
+    {
         self.octet = octet;
         self.of = of;
+        self.row = of;
         self.field = None;
         self.reason = reason;
     }
 
-    /// Tells the field, if none is told.
-    pub(crate) fn tell_field(&mut self, field: usize) {
+    /// Tells the field of a row, if none is told.
+    pub(crate) fn tell_field(&mut self, row: usize, place: usize)
+        ensures { (table : List Node) (field : Field) → HasFieldAt table row place field →
+            IsTold table (Some field) self.old → IsTold table None self.new }
+    {
         if self.field.is_none() {
-            self.field = Some(field);
+            self.row = row;
+            self.field = Some(place);
         }
     }
 
@@ -135,6 +154,8 @@ impl Refusal {
         ensures deep { fault ≡ faults.TooDeep → self.new.reason ≡ reasons.Depth }
         ensures of { fault ≡ faults.Refused →
             (self.new.of < types) ⊎ (self.new.reason ≡ reasons.MissingType) }
+        ensures told { (table : List Node) → types ≡ length table → fault ≡ faults.Refused →
+            IsTold table None self.old → IsTold table None self.new }
     {
         self.keep_within(len);
         if matches!(fault, Fault::TooDeep) {
@@ -146,7 +167,9 @@ impl Refusal {
 
     /// Keeps the place within an input of so many octets.
     pub(crate) fn keep_within(&mut self, len: usize)
-        ensures { self.new.octet ≤ len }
+        ensures within { self.new.octet ≤ len }
+        ensures same { self.old.octet ≤ len → self.new ≡ self.old }
+        ensures told { (table : List Node) → IsTold table None self.old → IsTold table None self.new }
     {
         if self.octet > len {
             self.octet = len;

@@ -1,7 +1,11 @@
 //! Elements of a set, which stand in any order (X.690 8.11, 10.3).
-ghost use Rattle.std.specs.Prelude.{◌≡◌, ◌<◌, List, IfSome, IfNone, IfOk, IsTrue};
+ghost use Rattle.std.specs.Prelude.{◌≡◌, ◌<◌, false, None, List, IfSome, IfNone, IfOk, IsTrue};
 ghost use Rattle.x690.specs.Elements.{Parts};
 ghost use Rattle.asn1_schema.specs.Each.{Each};
+ghost use Rattle.asn1_schema.specs.declared.refusal.Reason.TheVariants as reasons;
+ghost use Rattle.asn1_schema.specs.declared.schema.Node.{Node};
+ghost use Rattle.asn1_schema.specs.Sound.{node_at};
+ghost use Rattle.asn1_schema.specs.Refusals.{IsOfType, IsTold};
 ghost use Rattle.asn1_schema.specs.Rules.{IsTagBefore};
 ghost use Rattle.asn1_schema.specs.Reading.{id_of, parts_of};
 ghost use Rattle.asn1_schema.specs.Members.{AreElements, AreOrdered, MayFollow, FindsFirst, Finds, Lacks};
@@ -45,6 +49,8 @@ pub(crate) fn judge_order(
 ) -> bool
     ensures yes { IsTrue result → AreOrdered coding None octets.now }
     ensures no { AreOrdered coding None octets.now → IsTrue result }
+    ensures told { (table : List Node) → IsOfType reasons.Order (node_at table of) →
+        result ≡ false → IsTold table None refusal.new }
 {
     let mut rest = octets;
     let mut last = None;

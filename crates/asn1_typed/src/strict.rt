@@ -58,6 +58,7 @@ fn place_of(of: usize, octet: usize) -> Refusal
     Refusal {
         octet,
         of,
+        row: of,
         field: None,
         reason: Reason::Nothing,
     }

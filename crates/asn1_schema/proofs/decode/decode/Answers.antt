@@ -1,4 +1,5 @@
-use Rattle.std.proofs.Common.{subst}
+use Rattle.std.proofs.Common.{subst, refl, ap, ℕ, List}
+use Rattle.std.specs.Borrow.{Bor}
 use Rattle.std.specs.Prelude.{Err}
 use Rattle.asn1_schema.specs.declared.decode.DecodeError.TheVariants as errors
 use Rattle.asn1_schema.specs.declared.fault.Fault.{Fault}
@@ -35,6 +36,10 @@ returns-in-Err-clause-fails c =
       within = c.settle.ensures.within;
       of = λ is. c.settle.ensures.of
           (c.error_of.ensures.refused (error_is c.error_of.result errors.Refused is)).0;
+      told = λ is.
+          let same = (c.error_of.ensures.refused (error_is c.error_of.result errors.Refused is)).0 in
+          c.settle.ensures.told table refl same
+          (c.in-Err.ensures.told (ap (λ (z : Fault). Err z) same));
       deep = λ is. c.settle.ensures.deep
           (c.error_of.ensures.too_deep (error_is c.error_of.result errors.TooDeep is)).0;
     }

@@ -15,5 +15,6 @@ returns-in-Err-clause-fails c =
       emptied = fails.emptied;
       within = fails.within;
       of = λ e. fails.of (same_error (Bor (List ℕ)) c.in-Err.error errors.Refused e);
+      told = λ e. fails.told (same_error (Bor (List ℕ)) c.in-Err.error errors.Refused e);
       deep = λ e. fails.deep (same_error (Bor (List ℕ)) c.in-Err.error errors.TooDeep e);
     }

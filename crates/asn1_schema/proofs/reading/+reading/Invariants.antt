@@ -26,6 +26,9 @@ decreases-read_field l = 8 * (l.depth * suc (length l.nodes.now) + length l.node
 abbrev pub decreases-read_items : goal.decreases-read_items
 decreases-read_items l = 8 * (l.depth * suc (length l.nodes.now) + length l.nodes.now) + 4
 
+abbrev pub decreases-read_behind : goal.decreases-read_behind
+decreases-read_behind l = 8 * (l.depth * suc (length l.nodes.now) + length l.nodes.now) + 5
+
 abbrev pub decreases-read_fields : goal.decreases-read_fields
 decreases-read_fields l = 8 * (l.depth * suc (length l.nodes.now) + length l.nodes.now) + 6
 
@@ -59,6 +62,8 @@ decreases-read_items-loop-rest l = length l.rest
 
 abbrev pub invariant-read_fields-loop-field : goal.invariant-read_fields-loop-field
 invariant-read_fields-loop-field l = record {
+  done : List Field;
+  parts : l.fields ≡ done ++ l.left;
   told : fields_told false l.nodes l.unknown l.left ≡ true;
   so_far : (d : ℕ) → l.depth ≤ d → SoFar (AreFieldsOf l.coding l.nodes d l.unknown l.left l.rest)
       (AreFieldsOf l.coding l.nodes d l.unknown l.fields l.octets) l.initial.tape.items l.tape.items;
