@@ -133,6 +133,22 @@ def states(count, name, trait, call, word, what):
     return f"{head}\n{said}\n{{\n{calls}}}\n"
 
 
+def asks(count):
+    """The function that asks each of so many fields whether it is in DER form."""
+    bounds, values = of_fields(count, "FieldTellsDer")
+    parts = [f"{it}.in_der_form {it.lower()}.now ×" for it in LETTERS[:count]]
+    said = clause("ensures", ["IsTrue result ↔", *parts], "Unit {0}")
+    others = f" && are_der_fields{count - 1}({', '.join(LETTERS[1:count].lower())})" if count > 1 else ""
+    return f"""\
+/// Whether the fields in hand are in DER form. They are asked in turn, up to the first one that is not.
+pub fn are_der_fields{count}<{bounds}>({values}) -> bool
+{said}
+{{
+    a.is_der_field(){others}
+}}
+"""
+
+
 def rows(count):
     """The type of a row of so many fields."""
     nested = "()"
@@ -152,6 +168,7 @@ FILES = {
         for count in range(1, 17)
     ],
     "flat/rows": lambda: [rows(count) for count in range(1, 17)],
+    "flat/der_form": lambda: [asks(count) for count in range(1, 17)],
     "flat/in_der": lambda: [
         states(count, "in_der", "FieldIsDer", "field_is_der", "is_in_der", "their values are in DER form")
         for count in range(1, 17)

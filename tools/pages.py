@@ -12,6 +12,8 @@ tools/pages.py functions [CRATE ..]    each public function outside impls and tr
                                        its comment
 tools/pages.py lines [CRATE ..]        the lines of definitions, of lemmas in specs/Laws and of proofs of each crate,
                                        without imports, comments and empty lines
+tools/pages.py names                   the public names that two definitions or lemmas in specs/ have, with their files;
+                                       status 1 where there is one
 tools/pages.py words                   the words of each page beside its budget, and its sentences of more than 25
                                        words; status 1 where a page is above its budget, more than one sentence in
                                        twenty is too long, or a page links to a file that is not there
@@ -128,6 +130,31 @@ def definitions(words):
                     print(f"  {title} {', '.join(dict.fromkeys(names[place, name]))}")
 
 
+PUBLIC = re.compile(r"(?:  )?(?:abbrev |unfoldable )?pub (?:record |data )?(?!mod |use )([\w'◌]+)(?= |$)")
+
+
+def public_names(text):
+    """The public names of a file of definitions, those in a block `module` too. Fields have none."""
+    block = ""
+    for line in text.splitlines():
+        block = line if line[:1].strip() and not line.startswith("--") else block
+        head = PUBLIC.match(line)
+        if head and (block is line or block.startswith("module ")):
+            yield head[1]
+
+
+def names(_):
+    found = {}
+    for path in sorted(TOP.glob("crates/*/specs/**/*.antt")):
+        for name in public_names(read(path)):
+            found.setdefault(name, []).append(str(path.relative_to(TOP)))
+    double = {name: places for name, places in sorted(found.items()) if len(places) > 1}
+    for name, places in double.items():
+        print(f"{name}: {', '.join(places)}")
+    print(f"{len(found)} public names of specs/, {len(double)} of two definitions")
+    sys.exit(1 if double else 0)
+
+
 FUNCTION = re.compile(r"((?:^/// ?.*\n)*)(?:^(?://|#\[).*\n)*^pub (?:const )?fn (\w+)((?:.*\n)+?)(?:.*\{\}|\{)$", re.M)
 
 
@@ -233,6 +260,6 @@ def words(_):
 
 if __name__ == "__main__":
     signal.signal(signal.SIGPIPE, signal.SIG_DFL)
-    if sys.argv[1:2] not in (["modules"], ["definitions"], ["functions"], ["claims"], ["lines"], ["words"]):
+    if sys.argv[1:2] not in (["modules"], ["definitions"], ["functions"], ["claims"], ["lines"], ["names"], ["words"]):
         sys.exit(__doc__)
     globals()[sys.argv[1]](sys.argv[2:])

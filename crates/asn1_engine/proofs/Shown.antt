@@ -5,17 +5,17 @@ use Rattle.std.proofs.lemmas.List.{drop_at, length-append}
 use Rattle.x690.specs.Characters.{utf16_octets_of, ucs4_octets_of}
 use Rattle.asn1_engine.specs.declared.texts.Coding.{Coding}
 use Rattle.asn1_engine.specs.declared.texts.Coding.TheVariants.{Utf8, Ascii, Utf16, Ucs4}
-use Rattle.asn1_engine.specs.Texts.{Begins, Shows, ShowsFirst}
+use Rattle.asn1_engine.specs.Texts.{BeginsByCoding, Shows, ShowsFirst}
 
 -- what is left behind a character is the end of the octets
-pub left_behind : (coding : Coding) (octets rest : List ℕ) (c : ℕ) → Begins coding octets c rest →
+pub left_behind : (coding : Coding) (octets rest : List ℕ) (c : ℕ) → BeginsByCoding coding octets c rest →
     drop (length octets - length rest) octets ≡ rest
 left_behind coding octets rest c b = at_end (front coding b)
   where
     at_end : ((xs : List ℕ) × (octets ≡ xs ++ rest)) → drop (length octets - length rest) octets ≡ rest
     at_end (xs, e) = rw e (drop_at xs rest (length (xs ++ rest) - length rest) (omega (arith, length-append xs rest)))
 
-    front : (kind : Coding) → Begins kind octets c rest → (xs : List ℕ) × (octets ≡ xs ++ rest)
+    front : (kind : Coding) → BeginsByCoding kind octets c rest → (xs : List ℕ) × (octets ≡ xs ++ rest)
     front Utf8 h = (encode_utf8 c, h.is)
     front Ascii h = (c ∷ [], h.1)
     front Utf16 h = (utf16_octets_of c, h.is)

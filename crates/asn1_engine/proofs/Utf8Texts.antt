@@ -8,7 +8,7 @@ use Rattle.std.proofs.lemmas.Int.Digits.{all_below_base_digits_of}
 use Rattle.hex.specs.Hex.{encode_lower, encode_with, lower_digits}
 use Rattle.json.proofs.Printed.Utf8.{are_ascii}
 use Rattle.asn1_words.specs.Words.{number_text, integer_text, left_out_text, truncated_text}
-use Rattle.asn1_words.specs.Numbers.{arcs_text, more_arcs_text}
+use Rattle.asn1_words.specs.Numbers.{dotted_arcs, more_arcs_text}
 
 abbrev pub IsAsciiText : List ℕ → Type 0
 IsAsciiText text = are_ascii text ≡ true
@@ -56,7 +56,7 @@ more_arcs_are_ascii [] = refl
 more_arcs_are_ascii (arc ∷ arcs) = both (codes "." ++ number_text arc) (more_arcs_text arcs)
     (both (codes ".") (number_text arc) refl (number_is_ascii arc)) (more_arcs_are_ascii arcs)
 
-pub arcs_are_ascii : (arcs : List ℕ) → IsAsciiText (arcs_text arcs)
+pub arcs_are_ascii : (arcs : List ℕ) → IsAsciiText (dotted_arcs arcs)
 arcs_are_ascii [] = refl
 arcs_are_ascii (arc ∷ arcs) = both (number_text arc) (more_arcs_text arcs) (number_is_ascii arc) (more_arcs_are_ascii arcs)
 

@@ -16,13 +16,13 @@ use Rattle.x690.specs.Digits.{twos_complement_value}
 use Rattle.asn1_engine.specs.declared.texts.Coding.{Coding}
 use Rattle.asn1_engine.specs.declared.texts.Coding.TheVariants.{Utf8, Ascii, Utf16, Ucs4}
 use Rattle.asn1_words.specs.Words.{number_text, integer_text, left_out_text, truncated_text}
-use Rattle.asn1_words.specs.Numbers.{arcs, arcs_text, are_shown}
+use Rattle.asn1_words.specs.Numbers.{arcs, dotted_arcs, are_shown}
 use Rattle.asn1_engine.specs.Visible.{is_shown_as_it_is}
-use Rattle.asn1_engine.specs.Texts.{Begins, ShowsFirst, Shows, IsQuoted, character_text, end_text, escape_text, is_marked_character}
+use Rattle.asn1_engine.specs.Texts.{BeginsByCoding, ShowsFirst, Shows, IsQuoted, character_text, end_text, escape_text, is_marked_character}
 use Rattle.asn1_engine.specs.Values.{octets_text, truth_text, whole_number_text, bits_text, name_text, shown_arcs_text}
 use Rattle.asn1_engine.specs.Values.{identifier_text}
-use Rattle.asn1_engine.specs.Lines.{Sort, of_truth, of_number, of_bits, of_null, of_identifier, of_string, of_octets}
-use Rattle.asn1_engine.specs.Lines.{IsContentText, IsShownName, IsValueText, sort_of}
+use Rattle.asn1_engine.specs.Lines.{ShownAs, of_truth, of_number, of_bits, of_null, of_identifier, of_string, of_octets}
+use Rattle.asn1_engine.specs.Lines.{IsContentText, IsShownName, IsValueText, shown_as}
 use Rattle.asn1_engine.proofs.Utf8Texts.{IsAsciiText, both, either, number_is_ascii, integer_is_ascii, left_out_is_ascii}
 use Rattle.asn1_engine.proofs.Utf8Texts.{truncated_is_ascii, arcs_are_ascii, hexadecimal_is_ascii, radix_digits_are_ascii}
 
@@ -105,7 +105,7 @@ identifier_is_ascii : (width : ℕ) (relative : Bool) (name : Option (List ℕ))
     are_shown relative content ≡ shown → (are_shown relative content ≡ true → IsShownName relative content name) →
     IsAsciiText (if shown then shown_arcs_text width relative content ++ name_text name else octets_text width content)
 identifier_is_ascii width relative name content true e h =
-    let text : List ℕ = arcs_text (arcs relative content) in
+    let text : List ℕ = dotted_arcs (arcs relative content) in
     both (shown_arcs_text width relative content) (name_text name)
     (either (nat_le (length content) 40) text (truncated_text width (length content) text) (arcs_are_ascii (arcs relative content))
     (truncated_is_ascii width (length content) text (arcs_are_ascii (arcs relative content))))
@@ -126,7 +126,7 @@ character_is_utf8 c s =
     (IsUtf8-append (codes "\\") (encode_utf8 c) (IsUtf8-are_ascii (codes "\\") refl) plain)
     (one_text (is_shown_as_it_is c) (encode_utf8 c) (escape_text c) plain (IsUtf8-are_ascii (escape_text c) escape))
 
-scalar_begins : (coding : Coding) (octets rest : List ℕ) (c : ℕ) → Begins coding octets c rest → IsScalar c
+scalar_begins : (coding : Coding) (octets rest : List ℕ) (c : ℕ) → BeginsByCoding coding octets c rest → IsScalar c
 scalar_begins Utf8 octets rest c h = h.scalar
 scalar_begins Ascii octets rest c h = low_scalar c (omega (arith, h.0))
 scalar_begins Utf16 octets rest c h = h.scalar
@@ -162,7 +162,7 @@ behind_space text shown is h = subst (λ (l : List ℕ). IsUtf8 (drop 1 l)) (sym
 ascii_behind : (text shown : List ℕ) → text ≡ codes " " ++ shown → IsAsciiText shown → IsUtf8 (drop 1 text)
 ascii_behind text shown is h = behind_space text shown is (IsUtf8-are_ascii shown h)
 
-content_is_utf8 : (sort : Sort) (width : ℕ) (content text : List ℕ) → IsContentText sort width content text → IsUtf8 (drop 1 text)
+content_is_utf8 : (sort : ShownAs) (width : ℕ) (content text : List ℕ) → IsContentText sort width content text → IsUtf8 (drop 1 text)
 content_is_utf8 of_truth width content text h = ascii_behind text (truth_text width content) h (truth_is_ascii width content)
 content_is_utf8 of_number width content text h = ascii_behind text (whole_number_text width content) h (whole_number_is_ascii width content)
 content_is_utf8 of_bits width content text h = ascii_behind text (bits_text width content) h (bits_are_ascii width content)
@@ -179,4 +179,4 @@ pub value_is_utf8 : (width : ℕ) (line : Line) (constructed is_entered : Bool) 
     IsValueText width line constructed is_entered text → IsUtf8 (drop 1 text)
 value_is_utf8 width line true is_entered text h = subst (λ (l : List ℕ). IsUtf8 (drop 1 l)) (sym h) IsUtf8-nil
 value_is_utf8 width line false true text h = ascii_behind text (codes "holds") h refl
-value_is_utf8 width line false false text h = content_is_utf8 (sort_of line.class line.number) width line.content.now text h
+value_is_utf8 width line false false text h = content_is_utf8 (shown_as line.class line.number) width line.content.now text h

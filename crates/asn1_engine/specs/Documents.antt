@@ -37,8 +37,8 @@ HoldsBlocks name text documents = (blocks : List Block) × HasBlocks 0 text bloc
     (map said_of documents ≡ map (said_of_block name) blocks)
 
 -- The text says the octets in hexadecimal, with any white space: two digits for each, in either case.
-abbrev pub IsHexadecimal : List ℕ → List ℕ → Type 0
-IsHexadecimal text octets = decode_of (seen_of text) ≡ Ok octets
+abbrev pub IsSpacedHexadecimal : List ℕ → List ℕ → Type 0
+IsSpacedHexadecimal text octets = decode_of (seen_of text) ≡ Ok octets
 
 -- The text is the base64 of the octets, with any white space (RFC 4648 4).
 abbrev pub IsBase64 : List ℕ → List ℕ → Type 0
@@ -53,7 +53,7 @@ LacksBlocks text _ = ⊥
 -- the text is no hexadecimal of any octets
 abbrev pub LacksHexadecimal : List ℕ → DocumentError → Type 0
 LacksHexadecimal text error =
-    (error ≡ errors.NoHexadecimal) × ((octets : List ℕ) → IsHexadecimal text octets → ⊥)
+    (error ≡ errors.NoHexadecimal) × ((octets : List ℕ) → IsSpacedHexadecimal text octets → ⊥)
 
 -- it is the base64 of none
 abbrev pub LacksBase64 : List ℕ → DocumentError → Type 0
@@ -66,7 +66,7 @@ HoldsBy forms.Told name octets documents = (TellsPem octets true × HoldsBlocks 
 HoldsBy forms.Octets name octets documents = HoldsOne name octets documents
 HoldsBy forms.Pem name octets documents = HoldsBlocks name octets documents
 HoldsBy forms.Hexadecimal name octets documents =
-    (said : List ℕ) × IsHexadecimal octets said × HoldsOne name said documents
+    (said : List ℕ) × IsSpacedHexadecimal octets said × HoldsOne name said documents
 HoldsBy forms.Base64 name octets documents =
     (said : List ℕ) × IsBase64 octets said × HoldsOne name said documents
 
@@ -83,8 +83,8 @@ abbrev pub Holds : Form → List ℕ → List ℕ → List Document → Type 0
 Holds form name octets documents = (octets ≢ []) × HoldsBy form name octets documents
 
 -- Why a file holds none. It is empty, whatever the form, or its octets hold none.
-abbrev pub Lacks : Form → List ℕ → DocumentError → Type 0
-Lacks form octets error = ((octets ≡ []) × (error ≡ errors.Empty)) ⊎ ((octets ≢ []) × LacksBy form octets error)
+abbrev pub LacksDocument : Form → List ℕ → DocumentError → Type 0
+LacksDocument form octets error = ((octets ≡ []) × (error ≡ errors.Empty)) ⊎ ((octets ≢ []) × LacksBy form octets error)
 
 -- what is wrong with PEM, as an error of a document
 abbrev pub error_of : PemError → DocumentError

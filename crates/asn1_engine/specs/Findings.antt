@@ -17,8 +17,8 @@ TellsStrict octets Holds = IsStrictDer octets
 TellsStrict octets Refused = IsStrictDer octets → ⊥
 
 -- elements by BER, one after the other, and no more
-abbrev pub AreElements : List ℕ → Type 0
-AreElements octets = (lines : List Line) × (at : ℕ) × Row false 0 0 octets lines (ended at [])
+abbrev pub AreBerElements : List ℕ → Type 0
+AreBerElements octets = (lines : List Line) × (at : ℕ) × Row false 0 0 octets lines (ended at [])
 
 -- elements, as far as to an octet that begins none
 abbrev pub BreaksOff : List ℕ → Type 0
@@ -26,13 +26,13 @@ BreaksOff octets = (lines : List Line) × (at : ℕ) × (fault : Fault) × Row f
 
 -- the one or the other
 abbrev pub TellsElements : List ℕ → Bool → Type 0
-TellsElements octets true = AreElements octets
-TellsElements octets false = BreaksOff octets × (AreElements octets → ⊥)
+TellsElements octets true = AreBerElements octets
+TellsElements octets false = BreaksOff octets × (AreBerElements octets → ⊥)
 
 -- the same of what a command found
 abbrev pub FindsElements : List ℕ → Finding → Type 0
-FindsElements octets Holds = AreElements octets
-FindsElements octets Refused = BreaksOff octets × (AreElements octets → ⊥)
+FindsElements octets Holds = AreBerElements octets
+FindsElements octets Refused = BreaksOff octets × (AreBerElements octets → ⊥)
 
 -- elements by BER are nested as deep as octets in memory can be
 abbrev pub deepest : ℕ

@@ -13,25 +13,25 @@ use Rattle.asn1_engine.specs.Texts.{IsQuoted}
 use Rattle.asn1_engine.specs.Values.{octets_text, truth_text, whole_number_text, bits_text, identifier_text}
 
 -- as what the contents octets of a primitive element are shown
-pub data Sort : Type 0 where
-  of_truth : Sort
-  of_number : Sort
-  of_bits : Sort
-  of_null : Sort
-  of_identifier : (relative : Bool) → Sort
-  of_string : Coding → Sort
-  of_octets : Sort
+pub data ShownAs : Type 0 where
+  of_truth : ShownAs
+  of_number : ShownAs
+  of_bits : ShownAs
+  of_null : ShownAs
+  of_identifier : (relative : Bool) → ShownAs
+  of_string : Coding → ShownAs
+  of_octets : ShownAs
 
-abbrev pub is_between : ℕ → ℕ → ℕ → Bool
-is_between first last number = nat_le first number && nat_le number last
+abbrev pub is_in_range : ℕ → ℕ → ℕ → Bool
+is_in_range first last number = nat_le first number && nat_le number last
 
 -- strings and times whose octets from 80 on are not judged
 abbrev pub is_plain_string : ℕ → Bool
-is_plain_string number = nat_eq number 7 || nat_eq number 14 || is_between 18 27 number || is_between 31 34 number
+is_plain_string number = nat_eq number 7 || nat_eq number 14 || is_in_range 18 27 number || is_in_range 31 34 number
 
 -- by the number of a universal tag (X.680 8.6, table 1)
-abbrev pub sort_of_number : ℕ → Sort
-sort_of_number number =
+abbrev pub number_shown_as : ℕ → ShownAs
+number_shown_as number =
     if nat_eq number 1 then of_truth
     else if nat_eq number 2 || nat_eq number 10 then of_number
     else if nat_eq number 3 then of_bits
@@ -44,9 +44,9 @@ sort_of_number number =
     else if is_plain_string number then of_string Ascii
     else of_octets
 
-abbrev pub sort_of : Class → ℕ → Sort
-sort_of Universal number = sort_of_number number
-sort_of _ number = of_octets
+abbrev pub shown_as : Class → ℕ → ShownAs
+shown_as Universal number = number_shown_as number
+shown_as _ number = of_octets
 
 -- the name of an identifier that is not relative, where it has one
 abbrev pub IsShownName : (relative : Bool) → List ℕ → Option (List ℕ) → Type 0
@@ -55,7 +55,7 @@ IsShownName false content None = (name : List ℕ) → IsNameOf content name →
 IsShownName false content (Some name) = IsNameOf content name
 
 -- the text of contents octets; a NULL has none
-abbrev pub IsContentText : Sort → ℕ → List ℕ → List ℕ → Type 0
+abbrev pub IsContentText : ShownAs → ℕ → List ℕ → List ℕ → Type 0
 IsContentText of_truth width content text = text ≡ codes " " ++ truth_text width content
 IsContentText of_number width content text = text ≡ codes " " ++ whole_number_text width content
 IsContentText of_bits width content text = text ≡ codes " " ++ bits_text width content
@@ -72,7 +72,7 @@ IsContentText of_octets width content text = text ≡ codes " " ++ octets_text w
 abbrev pub IsValueText : ℕ → Line → (constructed is_entered : Bool) → List ℕ → Type 0
 IsValueText width line true is_entered text = text ≡ []
 IsValueText width line false true text = text ≡ codes " holds"
-IsValueText width line false false text = IsContentText (sort_of line.class line.number) width line.content.now text
+IsValueText width line false false text = IsContentText (shown_as line.class line.number) width line.content.now text
 
 -- the line, with its end
 abbrev pub IsLineText : ℕ → Line → Bool → List ℕ → Type 0

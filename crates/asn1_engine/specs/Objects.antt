@@ -65,5 +65,5 @@ abbrev pub refusal_object_text : ℕ → List ℕ → List ℕ
 refusal_object_text offset why = object_text (refusal_tokens offset why)
 
 -- a writer gains tokens, behind those that it has
-abbrev pub Gains : Written → Written → List Token → Type 0
-Gains old new gained = (new.before ≡ old.before) × (new.tokens ≡ old.tokens ++ gained)
+abbrev pub GainsTokens : Written → Written → List Token → Type 0
+GainsTokens old new gained = (new.before ≡ old.before) × (new.tokens ≡ old.tokens ++ gained)

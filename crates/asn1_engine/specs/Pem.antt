@@ -7,7 +7,7 @@ use Rattle.std.specs.String.{string_bytes}
 use Rattle.base64.specs.Engines.{standard}
 use Rattle.base64.specs.GeneralPurpose.{IsBytes, encode_of}
 use Rattle.x690.specs.Sets.{AllIn, is_graphic}
-use Rattle.asn1_engine.specs.Findings.{AreElements, BreaksOff}
+use Rattle.asn1_engine.specs.Findings.{AreBerElements, BreaksOff}
 use Rattle.asn1_engine.specs.declared.pem.Block.{Block}
 use Rattle.asn1_engine.specs.declared.pem.PemError.{PemError}
 use Rattle.asn1_engine.specs.declared.pem.PemError.TheVariants.{NoEnd, WrongEnd, NoBase64, Encrypted, OutOfMemory}
@@ -22,21 +22,21 @@ IsLine text line rest = (text ≢ []) × AllIn is_no_feed line ×
     ((text ≡ line ++ 10 ∷ rest) ⊎ ((text ≡ line) × (rest ≡ [])))
 
 -- the line without the white space at its end
-unfoldable pub trimmed : List ℕ → List ℕ
-trimmed line = take (length line - suffix_len is_ascii_whitespace line) line
+unfoldable pub trimmed_end : List ℕ → List ℕ
+trimmed_end line = take (length line - suffix_len is_ascii_whitespace line) line
 
 -- A word stands between a front and an end of the line, with any white space behind. So a line may end in CR LF.
-abbrev pub IsBetween : List ℕ → List ℕ → List ℕ → List ℕ → Type 0
-IsBetween front word end line = trimmed line ≡ front ++ (word ++ end)
+abbrev pub StandsBetween : List ℕ → List ℕ → List ℕ → List ℕ → Type 0
+StandsBetween front word end line = trimmed_end line ≡ front ++ (word ++ end)
 
 -- none does
 abbrev pub IsNoneBetween : List ℕ → List ℕ → List ℕ → Type 0
-IsNoneBetween front end line = (word : List ℕ) → IsBetween front word end line → ⊥
+IsNoneBetween front end line = (word : List ℕ) → StandsBetween front word end line → ⊥
 
 -- The line is of the label between its marks, as "-----BEGIN " and "-----" (RFC 7468 2 and 3). The label has visible
 -- characters and spaces.
 abbrev pub IsBoundary : List ℕ → List ℕ → List ℕ → Type 0
-IsBoundary front label line = IsBetween front label (codes "-----") line × AllIn is_graphic label
+IsBoundary front label line = StandsBetween front label (codes "-----") line × AllIn is_graphic label
 
 -- the line is none of any label
 abbrev pub IsNoBoundary : List ℕ → List ℕ → Type 0
@@ -59,7 +59,7 @@ base64_of line = if list_any (λ octet. nat_eq octet 58) line then [] else seen_
 
 -- the line is a field that says that the block is encrypted (RFC 1421 4.6.1.1)
 abbrev pub IsEncrypting : List ℕ → Type 0
-IsEncrypting line = (word : List ℕ) × IsBetween (codes "Proc-Type:") word (codes "ENCRYPTED") line
+IsEncrypting line = (word : List ℕ) × StandsBetween (codes "Proc-Type:") word (codes "ENCRYPTED") line
 
 -- The line is within a block: it is none of END, and does not say that the block is encrypted.
 abbrev pub IsInner : List ℕ → Type 0
@@ -129,5 +129,5 @@ pub data HasBegin : List ℕ → Type 0 where
 
 -- The text is taken for PEM: a line begins a block, and its octets are no elements as they stand.
 abbrev pub TellsPem : List ℕ → Bool → Type 0
-TellsPem text true = HasBegin text × BreaksOff text × (AreElements text → ⊥)
-TellsPem text false = (HasBegin text → ⊥) ⊎ AreElements text
+TellsPem text true = HasBegin text × BreaksOff text × (AreBerElements text → ⊥)
+TellsPem text false = (HasBegin text → ⊥) ⊎ AreBerElements text

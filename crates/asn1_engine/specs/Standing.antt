@@ -5,8 +5,8 @@ use Rattle.x690.specs.Elements.{Parts, IsDerElement}
 use Rattle.x690.specs.Faults.{Fault, DerElementFault}
 
 -- the octets of the element by DER that begins these; or all, where they have a fault there
-abbrev pub IsFront : List ℕ → List ℕ → Type 0
-IsFront octets word =
+abbrev pub IsFirstElement : List ℕ → List ℕ → Type 0
+IsFirstElement octets word =
     ((rest : List ℕ) × (parts : Parts) × (octets ≡ word ++ rest) × IsDerElement word parts) ⊎
     ((fault : Fault) × DerElementFault octets fault × (word ≡ octets))
 

@@ -10,11 +10,11 @@ use Rattle.asn1_engine.specs.declared.texts.Coding.{Coding}
 use Rattle.asn1_engine.specs.declared.texts.Coding.TheVariants.{Utf8, Ascii, Utf16, Ucs4}
 
 -- a character begins the octets, and the rest follows
-abbrev pub Begins : Coding → List ℕ → ℕ → List ℕ → Type 0
-Begins Utf8 octets c rest = BeginsWithCharacter encode_utf8 octets c rest
-Begins Ascii octets c rest = (c < 128) × (octets ≡ c ∷ rest)
-Begins Utf16 octets c rest = BeginsWithCharacter utf16_octets_of octets c rest
-Begins Ucs4 octets c rest = BeginsWithCharacter ucs4_octets_of octets c rest
+abbrev pub BeginsByCoding : Coding → List ℕ → ℕ → List ℕ → Type 0
+BeginsByCoding Utf8 octets c rest = BeginsWithCharacter encode_utf8 octets c rest
+BeginsByCoding Ascii octets c rest = (c < 128) × (octets ≡ c ∷ rest)
+BeginsByCoding Utf16 octets c rest = BeginsWithCharacter utf16_octets_of octets c rest
+BeginsByCoding Ucs4 octets c rest = BeginsWithCharacter ucs4_octets_of octets c rest
 
 -- a character as it is shown: quotation marks and backslashes behind a backslash, what is not visible by its number
 abbrev pub is_marked_character : ℕ → Bool
@@ -32,8 +32,8 @@ character_text c =
 -- hexadecimal digits.
 abbrev pub ShowsFirst : Coding → List ℕ → List ℕ → List ℕ → Type 0
 ShowsFirst coding octets text rest =
-    ((c : ℕ) × Begins coding octets c rest × (text ≡ character_text c)) ⊎
-    ((o : ℕ) × (octets ≡ o ∷ rest) × ((c : ℕ) (others : List ℕ) → Begins coding octets c others → ⊥) ×
+    ((c : ℕ) × BeginsByCoding coding octets c rest × (text ≡ character_text c)) ⊎
+    ((o : ℕ) × (octets ≡ o ∷ rest) × ((c : ℕ) (others : List ℕ) → BeginsByCoding coding octets c others → ⊥) ×
     (text ≡ codes "\\x" ++ encode_lower (o ∷ [])))
 
 -- so many characters of octets at most, as they are shown, and the octets that are left

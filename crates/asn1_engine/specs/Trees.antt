@@ -17,7 +17,7 @@ use Rattle.asn1_engine.specs.declared.trees.Options.{Options}
 use Rattle.asn1_words.specs.Words.{right, number_text}
 use Rattle.asn1_engine.specs.Findings.{IsFirst, HasNoFirst}
 use Rattle.asn1_engine.specs.Lines.{IsLineText}
-use Rattle.asn1_engine.specs.Inner.{IsHeld, HoldsElements, IsNotEntered}
+use Rattle.asn1_engine.specs.Inner.{AreStringOctets, HoldsElements, IsNotEntered}
 use Rattle.asn1_engine.specs.Objects.{IsObjectText, refusal_object_text}
 
 -- a sum, or the greatest number of 64 bits where that is less
@@ -30,15 +30,15 @@ placed offset depth line =
     record line { offset = sum_within line.offset offset; depth = sum_within line.depth depth }
 
 -- what is written of an element that is shown, in a line or in an object of JSON
-abbrev pub IsWritten : Bool → Bool → ℕ → Line → Bool → List ℕ → Type 0
-IsWritten json false width line is_entered text = text ≡ []
-IsWritten true true width line is_entered text = IsObjectText width line is_entered text
-IsWritten false true width line is_entered text = IsLineText width line is_entered text
+abbrev pub IsShownElement : Bool → Bool → ℕ → Line → Bool → List ℕ → Type 0
+IsShownElement json false width line is_entered text = text ≡ []
+IsShownElement true true width line is_entered text = IsObjectText width line is_entered text
+IsShownElement false true width line is_entered text = IsLineText width line is_entered text
 
 -- the same, where elements in so many elements or more are not shown
-abbrev pub Writes : Options → Line → Bool → List ℕ → Type 0
-Writes options line is_entered text =
-    IsWritten options.json (nat_lt line.depth options.depth) options.width line is_entered text
+abbrev pub IsShownToDepth : Options → Line → Bool → List ℕ → Type 0
+IsShownToDepth options line is_entered text =
+    IsShownElement options.json (nat_lt line.depth options.depth) options.width line is_entered text
 
 -- why no element begins, in words
 abbrev pub refusal_text : Refusal Error → List ℕ
@@ -55,9 +55,9 @@ IsRefusalLine false offset why text =
     text ≡ right 7 (number_text offset) ++ codes " no element: " ++ why ++ 10 ∷ []
 
 -- what is written behind the lines: nothing at the end, or that line
-abbrev pub IsEnd : Bool → ℕ → Outcome → List ℕ → Type 0
-IsEnd json offset (ended at rest) text = text ≡ []
-IsEnd json offset (refused at fault) text =
+abbrev pub IsEndText : Bool → ℕ → Outcome → List ℕ → Type 0
+IsEndText json offset (ended at rest) text = text ≡ []
+IsEndText json offset (refused at fault) text =
     IsRefusalLine json (sum_within at offset) (refusal_text (ber_refusal fault)) text
 
 -- where the octets stand that an element holds
@@ -72,13 +72,14 @@ inner_depth line = sum_within line.depth 1
 mutual
   pub data IsShown : Options → ℕ → Line → List ℕ → Type 0 where
     plain : (options : Options) (strings : ℕ) (line : Line) (text : List ℕ) → IsNotEntered options strings line →
-        Writes options line false text → IsShown options strings line text
+        IsShownToDepth options line false text → IsShown options strings line text
     holds : (options : Options) (strings : ℕ) (line : Line) (count : ℕ) (octets text : List ℕ) (inner : List Line)
-        (outcome : Outcome) (within end : List ℕ) → options.inner ≡ true → IsHeld line count octets → HoldsElements octets →
-        Writes options line true text →
+        (outcome : Outcome) (within end : List ℕ) → options.inner ≡ true → AreStringOctets line count octets →
+        HoldsElements octets →
+        IsShownToDepth options line true text →
         Row false 0 0 octets inner outcome →
         AreShown options strings (inner_offset line count) (inner_depth line) inner within →
-        IsEnd options.json (inner_offset line count) outcome end →
+        IsEndText options.json (inner_offset line count) outcome end →
         IsShown options (suc strings) line (text ++ within ++ end)
 
   pub data AreShown : Options → ℕ → ℕ → ℕ → List Line → List ℕ → Type 0 where
@@ -95,7 +96,7 @@ pub record IsTree (options : Options) (strings offset depth : ℕ) (octets text 
   pub shown : List ℕ
   pub prints : AreShown options strings offset depth lines shown
   pub end : List ℕ
-  pub ends : IsEnd options.json offset outcome end
+  pub ends : IsEndText options.json offset outcome end
   pub is : text ≡ shown ++ end
 
 -- What is written of the element that begins at an offset: what is written of its octets. Where no element begins there
@@ -107,8 +108,8 @@ IsTreeAt options offset octets text =
     (HasNoFirst (drop offset octets) × IsTree options 16 offset 0 (drop offset octets) text)
 
 -- what a walk over octets finds first
-abbrev pub FindsFirst : List ℕ → Step → Type 0
-FindsFirst octets found = (walk next : Walk) × (walk.view.now ≡ octets) × (walk.offset ≡ 0) ×
+abbrev pub FirstStepFinds : List ℕ → Step → Type 0
+FirstStepFinds octets found = (walk next : Walk) × (walk.view.now ≡ octets) × (walk.offset ≡ 0) ×
     (walk.frames.items ≡ []) × Finds found walk next
 
 -- the line of what was found, in octets that stand at an offset and within so many elements; nothing if it is no element
@@ -121,4 +122,4 @@ IsFoundText width offset depth (Refused r) text = text ≡ []
 -- the line of the element that begins octets, which stand at an offset; nothing where none does
 abbrev pub IsFirstLine : ℕ → ℕ → List ℕ → List ℕ → Type 0
 IsFirstLine width offset octets text =
-    (found : Step) × FindsFirst octets found × IsFoundText width offset 0 found text
+    (found : Step) × FirstStepFinds octets found × IsFoundText width offset 0 found text

@@ -4,7 +4,7 @@ use Rattle.std.specs.Prelude.{nat_lt, nat_le, nat_eq, if◌then◌else◌, ◌&&
 use Rattle.hex.specs.Hex.{encode_lower}
 use Rattle.x690.specs.Digits.{twos_complement_value}
 use Rattle.asn1_words.specs.Words.{number_text, integer_text, left_out_text, truncated_text}
-use Rattle.asn1_words.specs.Numbers.{arcs_text, arcs, are_shown}
+use Rattle.asn1_words.specs.Numbers.{dotted_arcs, arcs, are_shown}
 
 -- octets in hexadecimal within so many columns, and how many they are where not all are shown
 abbrev pub octets_text : ℕ → List ℕ → List ℕ
@@ -43,8 +43,8 @@ name_text (Some name) = codes " (" ++ name ++ codes ")"
 -- arcs with points between them: all of 40 octets at most, and else as many columns as the width has
 abbrev pub shown_arcs_text : ℕ → Bool → List ℕ → List ℕ
 shown_arcs_text width relative content =
-    if nat_le (length content) 40 then arcs_text (arcs relative content)
-    else truncated_text width (length content) (arcs_text (arcs relative content))
+    if nat_le (length content) 40 then dotted_arcs (arcs relative content)
+    else truncated_text width (length content) (dotted_arcs (arcs relative content))
 
 -- OBJECT IDENTIFIER and RELATIVE-OID (8.19, 8.20)
 abbrev pub identifier_text : ℕ → Bool → Option (List ℕ) → List ℕ → List ℕ

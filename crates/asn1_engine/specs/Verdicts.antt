@@ -17,7 +17,7 @@ use Rattle.asn1_engine.specs.declared.error.Finding.{Finding}
 use Rattle.asn1_engine.specs.declared.error.Finding.TheVariants.{Holds, Refused}
 use Rattle.asn1_engine.specs.declared.shortfalls.Shortfall.{Shortfall}
 use Rattle.asn1_engine.specs.Shortfalls.{TellsShortfall, shortfall_text}
-use Rattle.asn1_engine.specs.Standing.{IsFront, standing_text}
+use Rattle.asn1_engine.specs.Standing.{IsFirstElement, standing_text}
 use Rattle.asn1_words.specs.Words.{number_text}
 use Rattle.asn1_engine.specs.Wording.{words_of}
 
@@ -43,7 +43,7 @@ departure_text name departure shortfall word = name ++ codes ": octet " ++ numbe
 abbrev pub IsDepartureLine : List ℕ → List ℕ → Departure → List ℕ → Type 0
 IsDepartureLine name octets departure text = (shortfall : Option Shortfall) × (word : List ℕ) ×
     TellsShortfall departure.requirement (drop departure.offset octets) shortfall ×
-    IsFront (drop departure.offset octets) word × (text ≡ departure_text name departure shortfall word)
+    IsFirstElement (drop departure.offset octets) word × (text ≡ departure_text name departure shortfall word)
 
 -- the line of the first departure from strict DER, or that of none
 abbrev pub IsVerdict : List ℕ → List ℕ → List ℕ → Type 0
@@ -67,18 +67,18 @@ HeaderLacks octets requirement =
     (fault : Fault) × HeaderFault der_rule octets fault × (requirement ≡ requirement_of_fault fault)
 
 -- the element of a line
-abbrev pub parts_of : Line → Parts
-parts_of line =
+abbrev pub line_parts : Line → Parts
+line_parts line =
     record { id = identifier_of_line line; form = form_of line.length; content = line.content.now }
 
 -- What DER asks of the element of a line alone, at these octets, and is not met: of its header, or else of its tag.
 abbrev pub ElementLacks : List ℕ → Line → Requirement → Type 0
 ElementLacks octets line requirement = HeaderLacks octets requirement ⊎
-    (BeginsWithHeader der_rule octets × MissesOf requirement (parts_of line))
+    (BeginsWithHeader der_rule octets × MissesOf requirement (line_parts line))
 
 -- all that DER asks of the element alone is met
 abbrev pub ElementHolds : List ℕ → Line → Type 0
-ElementHolds octets line = BeginsWithHeader der_rule octets × IsProper (parts_of line)
+ElementHolds octets line = BeginsWithHeader der_rule octets × IsProper (line_parts line)
 
 -- what is not met where no element begins the octets: by the header, or octets are missing behind it
 abbrev pub NothingHolds : List ℕ → Requirement → Type 0
@@ -112,7 +112,7 @@ IsLastVerdict name octets first (refused at fault) text = (requirement : Require
 
 -- The lines behind the first departure: of each element by BER that has not what DER asks of it alone, in their order,
 -- and of the first octet that begins none.
-pub record AreOthers (name octets : List ℕ) (first : ℕ) (text : List ℕ) : Type 0 where
+pub record AreOtherDepartures (name octets : List ℕ) (first : ℕ) (text : List ℕ) : Type 0 where
   pub lines : List Line
   pub outcome : Outcome
   pub row : Row false 0 0 octets lines outcome
@@ -126,4 +126,5 @@ pub record AreOthers (name octets : List ℕ) (first : ℕ) (text : List ℕ) : 
 abbrev pub AreVerdicts : List ℕ → List ℕ → List ℕ → Type 0
 AreVerdicts name octets text = (IsStrictDer octets × (text ≡ strict_text name)) ⊎
     ((departure : Departure) × (line more : List ℕ) × DepartsFromDer octets departure ×
-    IsDepartureLine name octets departure line × AreOthers name octets departure.offset more × (text ≡ line ++ more))
+    IsDepartureLine name octets departure line × AreOtherDepartures name octets departure.offset more ×
+    (text ≡ line ++ more))

@@ -1,6 +1,7 @@
 //! Documents: the octets that a file holds, by the form that it is read in.
 ghost use Rattle.std.specs.Prelude.{◌≡◌, ◌⊎◌, Some, map, IfOk, IfErr};
-ghost use Rattle.asn1_engine.specs.Documents.{Holds, HoldsBlocks, HoldsBy, HoldsOne, IsBase64, IsHexadecimal, Lacks};
+ghost use Rattle.asn1_engine.specs.Documents.{Holds, HoldsBlocks, HoldsBy, HoldsOne, IsBase64, IsSpacedHexadecimal};
+ghost use Rattle.asn1_engine.specs.Documents.{LacksDocument};
 ghost use Rattle.asn1_engine.specs.Documents.{LacksBase64, LacksBlocks, LacksBy, LacksHexadecimal, error_of, said_of};
 ghost use Rattle.asn1_engine.specs.Documents.{said_of_block};
 ghost use Rattle.asn1_engine.specs.Messages.{document_error_text};
@@ -111,7 +112,7 @@ fn drop_space(text: &mut Vec<u8>)
 
 /// What hexadecimal says.
 fn of_hexadecimal(alloc: Global, mut text: Vec<u8>) -> Result<Vec<u8>, DocumentError>
-    ensures ok { IfOk result (λ octets. IsHexadecimal text.items octets.items) }
+    ensures ok { IfOk result (λ octets. IsSpacedHexadecimal text.items octets.items) }
     ensures err { IfErr result (λ e. (e ≡ OutOfMemory) ⊎ LacksHexadecimal text.items e) }
 {
     drop_space(&mut text);
@@ -204,7 +205,7 @@ pub fn documents(
     octets: Vec<u8>,
 ) -> Result<Vec<Document>, DocumentError>
     ensures ok { IfOk result (λ found. Holds form name.now octets.items found.items) }
-    ensures err { IfErr result (λ e. (e ≡ OutOfMemory) ⊎ Lacks form octets.items e) }
+    ensures err { IfErr result (λ e. (e ≡ OutOfMemory) ⊎ LacksDocument form octets.items e) }
 {
     if octets.is_empty() {
         return Err(DocumentError::Empty);

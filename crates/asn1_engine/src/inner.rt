@@ -1,7 +1,8 @@
 //! Strings that are shown by the elements that they hold.
 ghost use Rattle.std.specs.Prelude.{◌≡◌, ℕ, List, IfOk, IfSome, IfNone};
 ghost use Rattle.asn1_headers.specs.Header.{identifier_of};
-ghost use Rattle.asn1_engine.specs.Inner.{HoldsElements, HoldsNone, IsHeld, TellsHeld, TellsUsual, is_usual};
+ghost use Rattle.asn1_engine.specs.Inner.{HoldsElements, HoldsNoElements, AreStringOctets, TellsInner, TellsUsual};
+ghost use Rattle.asn1_engine.specs.Inner.{is_usual};
 
 use crate::elements::are_elements;
 use crate::heads::is_mostly_constructed;
@@ -42,7 +43,7 @@ fn begin_as_usual(octets: &[u8]) -> bool
 
 /// Whether octets are elements by BER and no more, an element at least, the first of which is as usual.
 fn hold_elements(alloc: Global, octets: &[u8]) -> Result<bool, AllocError>
-    ensures { IfOk result (TellsHeld octets.now) }
+    ensures { IfOk result (TellsInner octets.now) }
 {
     if !begin_as_usual(octets) {
         return Ok(false);
@@ -52,8 +53,9 @@ fn hold_elements(alloc: Global, octets: &[u8]) -> Result<bool, AllocError>
 
 /// What a string holds: nothing where the element is no string, or a BIT STRING with unused bits.
 fn held_by<'a>(line: &Line<'a>) -> Option<Held<'a>>
-    ensures some { IfSome result (λ held. IsHeld line.now held.count held.octets.now) }
-    ensures none { IfNone result ((count : ℕ) (octets : List ℕ) → IsHeld line.now count octets → ⊥) }
+    ensures some { IfSome result (λ held. AreStringOctets line.now held.count held.octets.now) }
+    ensures none { IfNone result ((count : ℕ) (octets : List ℕ) →
+        AreStringOctets line.now count octets → ⊥) }
 {
     if line.constructed || line.class != Class::Universal {
         return None;
@@ -68,8 +70,8 @@ fn held_by<'a>(line: &Line<'a>) -> Option<Held<'a>>
 /// What a string holds, where that are elements.
 pub fn elements_held<'a>(alloc: Global, line: &Line<'a>) -> Result<Option<Held<'a>>, AllocError>
     ensures some { IfOk result (λ found. IfSome found (λ held.
-        IsHeld line.now held.count held.octets.now × HoldsElements held.octets.now)) }
-    ensures none { IfOk result (λ found. IfNone found (HoldsNone line.now)) }
+        AreStringOctets line.now held.count held.octets.now × HoldsElements held.octets.now)) }
+    ensures none { IfOk result (λ found. IfNone found (HoldsNoElements line.now)) }
 {
     let Some(held) = held_by(line) else {
         return Ok(None);

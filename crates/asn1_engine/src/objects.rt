@@ -4,7 +4,8 @@ ghost use Rattle.json.specs.Token.{begin_object, end_object, key, number, string
 ghost use Rattle.json.specs.Print.{print};
 ghost use Rattle.asn1_engine.specs.Heads.{tag_text};
 ghost use Rattle.asn1_engine.specs.Lines.{IsValueText};
-ghost use Rattle.asn1_engine.specs.Objects.{Gains, IsObjectText, class_word, length_token, member_tokens, object_text};
+ghost use Rattle.asn1_engine.specs.Objects.{GainsTokens, IsObjectText, class_word, length_token, member_tokens};
+ghost use Rattle.asn1_engine.specs.Objects.{object_text};
 ghost use Rattle.asn1_engine.specs.Objects.{place_tokens, refusal_object_text, refusal_tokens, tag_tokens, value_tokens};
 
 use crate::tags::push_tag;
@@ -31,7 +32,8 @@ fn class_word(class: Class) -> &'static str
 
 /// Writes a member that is a number.
 fn put_number(out: &mut Writer, name: &str, value: u64) -> Result<(), AllocError>
-    ensures { OnOk result (Gains out.old out.new (key name.now ∷ number (decimal value) ∷ [])) }
+    ensures { OnOk result (GainsTokens out.old out.new
+        (key name.now ∷ number (decimal value) ∷ [])) }
 {
     out.key(name)?;
     out.u64(value)?;
@@ -40,7 +42,7 @@ fn put_number(out: &mut Writer, name: &str, value: u64) -> Result<(), AllocError
 
 /// Writes a member that is a text.
 fn put_text(out: &mut Writer, name: &str, value: &str) -> Result<(), AllocError>
-    ensures { OnOk result (Gains out.old out.new (key name.now ∷ string value.now ∷ [])) }
+    ensures { OnOk result (GainsTokens out.old out.new (key name.now ∷ string value.now ∷ [])) }
 {
     out.key(name)?;
     out.string(value)?;
@@ -49,7 +51,7 @@ fn put_text(out: &mut Writer, name: &str, value: &str) -> Result<(), AllocError>
 
 /// Writes the length, or null for the indefinite form.
 fn put_length(out: &mut Writer, length: Length) -> Result<(), AllocError>
-    ensures { OnOk result (Gains out.old out.new (length_token length ∷ [])) }
+    ensures { OnOk result (GainsTokens out.old out.new (length_token length ∷ [])) }
 {
     match length {
         Length::Definite(count) => out.u64(count as u64)?,
@@ -60,7 +62,7 @@ fn put_length(out: &mut Writer, length: Length) -> Result<(), AllocError>
 
 /// Writes where the element stands, and how long it is.
 fn put_place(out: &mut Writer, line: &Line<'_>) -> Result<(), AllocError>
-    ensures { OnOk result (Gains out.old out.new (place_tokens line.now)) }
+    ensures { OnOk result (GainsTokens out.old out.new (place_tokens line.now)) }
 {
     put_number(out, "offset", line.offset as u64)?;
     put_number(out, "depth", line.depth as u64)?;
@@ -82,7 +84,7 @@ fn shown_tag(alloc: Global, class: Class, number: u32) -> Result<String, AllocEr
 
 /// Writes what the identifier octets say.
 fn put_tag(alloc: Global, out: &mut Writer, line: &Line<'_>) -> Result<(), AllocError>
-    ensures { OnOk result (Gains out.old out.new (tag_tokens line.now)) }
+    ensures { OnOk result (GainsTokens out.old out.new (tag_tokens line.now)) }
 {
     let name = shown_tag(alloc, line.class, line.number)?;
     put_text(out, "class", class_word(line.class))?;
@@ -117,7 +119,8 @@ fn put_value(
     line: &Line<'_>,
     value: &str,
 ) -> Result<(), AllocError>
-    ensures { OnOk result (Gains out.old out.new (value_tokens line.now.constructed line.now value.now)) }
+    ensures { OnOk result (GainsTokens out.old out.new
+        (value_tokens line.now.constructed line.now value.now)) }
 {
     if line.constructed {
         return Ok(());

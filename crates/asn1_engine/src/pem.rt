@@ -4,7 +4,8 @@ ghost use Rattle.std.specs.Prelude.{IfOk, IfErr, MatchOption, OnOk};
 ghost use Rattle.base64.specs.Engines.{standard};
 ghost use Rattle.base64.specs.GeneralPurpose.{encode_of};
 ghost use Rattle.asn1_engine.specs.Messages.{pem_error_text};
-ghost use Rattle.asn1_engine.specs.Pem.{HasBegin, HasBlocks, IsBetween, IsBlock, IsBoundary, IsEncrypting, IsMistake};
+ghost use Rattle.asn1_engine.specs.Pem.{HasBegin, HasBlocks, StandsBetween, IsBlock, IsBoundary, IsEncrypting};
+ghost use Rattle.asn1_engine.specs.Pem.{IsMistake};
 ghost use Rattle.asn1_engine.specs.Pem.{IsNoBase64, IsNoBoundary, IsNoneBetween, TellsPem, base64_of, begin_front, end_front};
 ghost use Rattle.asn1_engine.specs.declared.pem.Block.{Block};
 ghost use Rattle.asn1_engine.specs.declared.pem.PemError.TheVariants.{OutOfMemory, NoBase64};
@@ -78,7 +79,7 @@ impl<T: Drop> From<AllocFailed<T>> for PemError {
 /// What stands between a front and an end of the line, with any white space behind.
 fn between<'a>(line: &'a [u8], front: &[u8], end: &[u8]) -> Option<&'a [u8]>
     ensures { MatchOption result (IsNoneBetween front.now end.now line.now)
-        (λ word. IsBetween front.now word.now end.now line.now) }
+        (λ word. StandsBetween front.now word.now end.now line.now) }
 {
     let behind = line.trim_ascii_end().strip_prefix(front)?;
     behind.strip_suffix(end)

@@ -1,6 +1,6 @@
 //! What stands where an element departs.
 ghost use Rattle.std.specs.Prelude.{◌≡◌, ◌++◌, take, drop, OnOk};
-ghost use Rattle.asn1_engine.specs.Standing.{IsFront, mark_text, more_octets_text, spaced_text, standing_text};
+ghost use Rattle.asn1_engine.specs.Standing.{IsFirstElement, mark_text, more_octets_text, spaced_text, standing_text};
 
 use asn1_headers::der::element_by_der;
 use asn1_words::octets::behind;
@@ -12,7 +12,7 @@ const MOST_SHOWN: usize = 24;
 
 /// The octets of the element by DER that begins these, or all where none does.
 fn front(octets: &[u8]) -> &[u8]
-    ensures { IsFront octets.now result.now }
+    ensures { IsFirstElement octets.now result.now }
 {
     match element_by_der(octets) {
         Ok((rest, _element)) => {
@@ -25,7 +25,7 @@ fn front(octets: &[u8]) -> &[u8]
 
 /// What stands at the offset: an element, or all octets behind where none is whole.
 pub fn word_at(octets: &[u8], offset: usize) -> &[u8]
-    ensures { IsFront (drop offset octets.now) result.now }
+    ensures { IsFirstElement (drop offset octets.now) result.now }
 {
     front(behind(octets, offset))
 }

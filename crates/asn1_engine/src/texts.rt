@@ -4,7 +4,8 @@ ghost use Rattle.std.specs.Prelude.{IfSome, IfNone, IfOk, OnOk, ◌≤◌};
 ghost use Rattle.std.specs.Char.{IsScalar};
 ghost use Rattle.x690.specs.Characters.{BeginsWithCharacter};
 ghost use Rattle.asn1_engine.specs.Visible.{MayBeShown, is_shown_as_it_is};
-ghost use Rattle.asn1_engine.specs.Texts.{Begins, IsQuoted, Shows, ShowsFirst, character_text, end_text, escape_text};
+ghost use Rattle.asn1_engine.specs.Texts.{BeginsByCoding, IsQuoted, Shows, ShowsFirst, character_text, end_text};
+ghost use Rattle.asn1_engine.specs.Texts.{escape_text};
 ghost use Rattle.asn1_engine.specs.Texts.{is_marked_character};
 
 use asn1_words::octets::behind;
@@ -108,8 +109,9 @@ fn first_of_utf8(octets: &[u8]) -> Option<(char, &[u8])>
 
 /// The first character, and the octets behind it.
 fn first_of(coding: Coding, octets: &[u8]) -> Option<(char, &[u8])>
-    ensures some { IfSome result (λ found. Begins coding octets.now found.0 found.1.now) }
-    ensures none { IfNone result ((c : ℕ) (rest : List ℕ) → Begins coding octets.now c rest → ⊥) }
+    ensures some { IfSome result (λ found. BeginsByCoding coding octets.now found.0 found.1.now) }
+    ensures none { IfNone result ((c : ℕ) (rest : List ℕ) →
+        BeginsByCoding coding octets.now c rest → ⊥) }
 {
     match coding {
         Coding::Utf8 => first_of_utf8(octets),

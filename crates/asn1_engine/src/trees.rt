@@ -5,8 +5,8 @@ ghost use Rattle.std.specs.Io.KnownBytes.{Appends};
 ghost use Rattle.asn1_engine.specs.Findings.{FindsElements, FindsAt, HasNoFirst, IsFirst};
 ghost use Rattle.asn1_words.specs.Words.{right, number_text};
 ghost use Rattle.asn1_engine.specs.Lines.{IsLineText};
-ghost use Rattle.asn1_engine.specs.Trees.{IsRefusalLine, IsShown, IsTree, IsTreeAt, Writes, inner_depth};
-ghost use Rattle.asn1_engine.specs.Inner.{IsHeld, HoldsElements, IsNotEntered};
+ghost use Rattle.asn1_engine.specs.Trees.{IsRefusalLine, IsShown, IsTree, IsTreeAt, IsShownToDepth, inner_depth};
+ghost use Rattle.asn1_engine.specs.Inner.{AreStringOctets, HoldsElements, IsNotEntered};
 ghost use Rattle.asn1_engine.specs.Trees.{inner_offset};
 ghost use Rattle.asn1_engine.specs.Trees.{IsFirstLine, IsFoundText, placed, refusal_text};
 
@@ -73,7 +73,7 @@ fn entered_part<'a>(
     ensures some { IfOk result (λ found. IfSome found (λ part. 1 ≤ strings)) }
     ensures inner { IfOk result (λ found. IfSome found (λ part. options.now.inner ≡ true)) }
     ensures held { IfOk result (λ found. IfSome found (λ part. (count : ℕ) ×
-        IsHeld line.now count part.octets.now × HoldsElements part.octets.now ×
+        AreStringOctets line.now count part.octets.now × HoldsElements part.octets.now ×
         (part.offset ≡ inner_offset line.now count) × (part.depth ≡ inner_depth line.now))) }
     ensures none { IfOk result (λ found. IfNone found (IsNotEntered options.now strings line.now)) }
 {
@@ -118,7 +118,7 @@ fn write_line<W: Write>(
     text: &mut Vec<u8>,
     out: &mut W,
 ) -> Result<(), RunError>
-    ensures { OnOk result ((shown : List ℕ) × Writes options.now line.now is_entered shown ×
+    ensures { OnOk result ((shown : List ℕ) × IsShownToDepth options.now line.now is_entered shown ×
         Appends (W.contents out.old) (W.contents out.new) shown) }
 {
     if line.depth >= options.depth {

@@ -3,7 +3,7 @@ ghost use Rattle.std.specs.Prelude.{◌≡◌, ◌++◌, List, ℕ, Option, opti
 ghost use Rattle.asn1_engine.specs.Values.{bits_text, identifier_text, name_text, octets_text, truth_text};
 ghost use Rattle.asn1_engine.specs.Values.{shown_arcs_text, whole_number_text};
 ghost use Rattle.asn1_words.specs.Numbers.{are_shown};
-ghost use Rattle.asn1_engine.specs.Lines.{IsContentText, IsShownName, IsValueText, sort_of_number};
+ghost use Rattle.asn1_engine.specs.Lines.{IsContentText, IsShownName, IsValueText, number_shown_as};
 
 use crate::texts::{Coding, push_quoted};
 use asn1_headers::class::Class;
@@ -144,7 +144,7 @@ fn push_universal(
     content: &[u8],
 ) -> Result<(), AllocError>
     ensures { OnOk result ((shown : List ℕ) ×
-        IsContentText (sort_of_number number) width content.now shown ×
+        IsContentText (number_shown_as number) width content.now shown ×
         (text.new.items ≡ text.old.items ++ shown)) }
 {
     if number == 5 && content.is_empty() {

@@ -4,7 +4,7 @@ ghost use Rattle.std.specs.Io.KnownBytes.{Appends};
 ghost use Rattle.x690.specs.Rules.{der_rule};
 ghost use Rattle.x690.specs.Elements.{BeginsWithHeader};
 ghost use Rattle.asn1_engine.specs.Findings.{TellsStrict};
-ghost use Rattle.asn1_engine.specs.Verdicts.{AreOthers, AreVerdicts, ElementHolds, ElementLacks, HeaderLacks};
+ghost use Rattle.asn1_engine.specs.Verdicts.{AreOtherDepartures, AreVerdicts, ElementHolds, ElementLacks, HeaderLacks};
 ghost use Rattle.asn1_engine.specs.Verdicts.{IsDepartureLine, IsElementVerdict, IsFurther, IsLineOf, IsVerdict};
 ghost use Rattle.asn1_engine.specs.Verdicts.{NothingHolds, departure_text, finding_of, rule_text, strict_text};
 ghost use Rattle.asn1_engine.specs.Verdicts.{wrong_text};
@@ -237,7 +237,7 @@ fn write_others<W: Write>(
     first: usize,
     out: &mut W,
 ) -> Result<(), RunError>
-    ensures { OnOk result ((shown : List ℕ) × AreOthers name.now octets.now first shown ×
+    ensures { OnOk result ((shown : List ℕ) × AreOtherDepartures name.now octets.now first shown ×
         Appends (W.contents out.old) (W.contents out.new) shown) }
 {
     let mut walk = Walk::new(alloc, octets);

@@ -21,7 +21,7 @@ use Rattle.asn1_headers.specs.declared.length.Length.TheVariants.{Definite, Inde
 use Rattle.asn1_headers.specs.declared.error.Err.{Err as Refusal}
 use Rattle.asn1_headers.specs.declared.error.Error.{Error}
 use Rattle.asn1_headers.specs.Content.{Splits}
-use Rattle.asn1_headers.specs.Answers.{Front}
+use Rattle.asn1_headers.specs.Answers.{HasPrefix}
 use Rattle.asn1_headers.specs.Ber.{Counted}
 use Rattle.asn1_headers.specs.Header.{identifier_of}
 use Rattle.asn1_headers.specs.Header.Reading.{BeginsInput, KeepsIdentifier, Refused, ber_refusal, der_refusal}
@@ -48,7 +48,7 @@ content_truncated input rest h n lacking b f some sum = record {
 pub definite_read : (input after content rest : List ℕ) (h : Header) (n : ℕ) → IsOctets input →
     BeginsInput der_rule input after h → h.length ≡ Definite n → length content ≡ n → after ≡ content ++ rest →
     (p : Parts) → p.id ≡ identifier_of h → p.form ≡ form_of h.length → p.content ≡ content →
-    Front IsDerElement input p rest
+    HasPrefix IsDerElement input p rest
 definite_read input after content rest h n octets b f l e p pi pf pc = record {
   word = b.octets ++ content;
   fits = record {
@@ -67,7 +67,7 @@ definite_read input after content rest h n octets b f l e p pi pf pc = record {
 pub der_content_read : (input after : List ℕ) (x : Bor (List ℕ) × Bor (List ℕ)) (h : Header) (l : Length) →
     IsOctets input → BeginsInput der_rule input after h → h.length ≡ l → DerContentGives (form_of l) after (Ok x) →
     (p : Parts) → p.id ≡ identifier_of h → p.form ≡ form_of h.length → p.content ≡ x.1.now →
-    Front IsDerElement input p x.0.now
+    HasPrefix IsDerElement input p x.0.now
 der_content_read input after x h (Definite n) octets b f s p pi pf pc =
     definite_read input after x.1.now x.0.now h n octets b f s.0 s.1 p pi pf pc
 der_content_read input after x h Indefinite octets b f s p pi pf pc = absurd (cc)

@@ -15,7 +15,7 @@ seen (Ok x) = Ok (x.0.now, x.1)
 seen (Err e) = Err e
 
 -- a word of the grammar, of this value, begins the input, and this is the rest
-pub record Front {V : Type 0} (G : List ℕ → V → Type 0) (input : List ℕ) (v : V) (rest : List ℕ) : Type 0 where
+pub record HasPrefix {V : Type 0} (G : List ℕ → V → Type 0) (input : List ℕ) (v : V) (rest : List ℕ) : Type 0 where
   pub word : List ℕ
   pub fits : G word v
   pub is : input ≡ word ++ rest
@@ -44,7 +44,7 @@ IsOther {E} gives e = ((f : Error) × (f ≢ OutOfMemory) × gives f e) ⊎ (giv
 -- allocates, out of memory may be reported.
 abbrev pub Exactly : {T V E : Type 0} → (List ℕ → Type 0) → (List ℕ → V → Type 0) → (T → V) → (Refusal E → Type 0) →
     List ℕ → Result (List ℕ × T) (Refusal E) → Type 0
-Exactly IsTruncated G value memory input (Ok x) = Front G input (value x.1) x.0
+Exactly IsTruncated G value memory input (Ok x) = HasPrefix G input (value x.1) x.0
 Exactly IsTruncated G value memory input (Err r) = memory r ⊎ IsFinal (IsTruncated input) r G input
 
 -- the answer is this value before this rest, except when out of memory

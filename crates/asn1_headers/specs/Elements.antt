@@ -6,7 +6,7 @@ use Rattle.x690.specs.Faults.{Fault}
 use Rattle.asn1_headers.specs.declared.error.Error.{Error}
 use Rattle.asn1_headers.specs.declared.error.Err.{Err as Refusal}
 use Rattle.asn1_headers.specs.declared.header.Header.{Header}
-use Rattle.asn1_headers.specs.Answers.{Front}
+use Rattle.asn1_headers.specs.Answers.{HasPrefix}
 use Rattle.asn1_headers.specs.Header.{identifier_of}
 use Rattle.asn1_headers.specs.Header.Reading.{Refused, KeepsIdentifier}
 use Rattle.asn1_headers.specs.Length.{form_of}
@@ -18,7 +18,7 @@ element_parts h content = record { id = identifier_of h; form = form_of h.length
 -- The element, with its identifier octets kept, begins the input, and the rest follows.
 pub record BeginsWithHeaderAndContents (ElementOf : List ℕ → Parts → Type 0) (input : List ℕ) (h : Header)
     (content rest : List ℕ) : Type 0 where
-  pub front : Front ElementOf input (element_parts h content) rest
+  pub front : HasPrefix ElementOf input (element_parts h content) rest
   pub kept : KeepsIdentifier input h
 
 -- what a reader of elements may answer: the header, the contents octets and the rest, or the refusal of the first fault

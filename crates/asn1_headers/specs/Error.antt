@@ -22,10 +22,10 @@ Converted {E} {F} gives (refused e) r = (f : F) × gives e f × (r ≡ refused f
 Converted {E} {F} gives (failed e) r = (f : F) × gives e f × (r ≡ failed f)
 
 -- the fact holds of the error that is held, where one is
-abbrev pub HeldIn : {E : Type 0} → (E → Type 0) → Refusal E → Type 0
-HeldIn P (truncated n) = Unit {0}
-HeldIn P (refused e) = P e
-HeldIn P (failed e) = P e
+abbrev pub ErrorIs : {E : Type 0} → (E → Type 0) → Refusal E → Type 0
+ErrorIs P (truncated n) = Unit {0}
+ErrorIs P (refused e) = P e
+ErrorIs P (failed e) = P e
 
 -- octets are missing
 abbrev pub IsTruncated : {E : Type 0} → Refusal E → Type 0

@@ -28,16 +28,16 @@ IsLengthOrMemory n e =
     ((e ≡ serialize_errors.InvalidLength) × (2 ^ 64 ≤ n)) ⊎ ((e ≡ serialize_errors.OutOfMemory) × (n < 2 ^ 64))
 
 -- what a caller is told where octets find no room
-abbrev pub refusal_of : NoRoom → SerializeError
-refusal_of no_room.PastUsize = serialize_errors.InvalidLength
-refusal_of no_room.OutOfMemory = serialize_errors.OutOfMemory
+abbrev pub no_room_refusal : NoRoom → SerializeError
+no_room_refusal no_room.PastUsize = serialize_errors.InvalidLength
+no_room_refusal no_room.OutOfMemory = serialize_errors.OutOfMemory
 
 abbrev pub answer_of : Result ℕ NoRoom → Result ℕ SerializeError
 answer_of (Ok n) = Ok n
-answer_of (Err e) = Err (refusal_of e)
+answer_of (Err e) = Err (no_room_refusal e)
 
 -- The octets stand in front, and their number is the answer; or all is as it was, for want of room.
 abbrev pub IsPut : List ℕ → List ℕ → List ℕ → Result ℕ NoRoom → Type 0
 IsPut octets old new answer = MatchResult answer (λ n. (new ≡ octets ++ old) × (n ≡ length octets))
-    (λ e. (new ≡ old) × IsLengthOrMemory (length octets + length old) (refusal_of e)
-    × MayRefuse true (length octets + length old) (refusal_of e))
+    (λ e. (new ≡ old) × IsLengthOrMemory (length octets + length old) (no_room_refusal e)
+    × MayRefuse true (length octets + length old) (no_room_refusal e))

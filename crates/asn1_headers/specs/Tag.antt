@@ -13,8 +13,8 @@ universal_names = codes "EndOfContent" ∷ codes "Boolean" ∷ codes "Integer" �
     codes "GeneralString" ∷ codes "UniversalString" ∷ codes "CharacterString" ∷ codes "BmpString" ∷ []
 
 -- the name of a tag number of the universal class, empty where it has none
-abbrev pub name_of : ℕ → List ℕ
-name_of number = get_or universal_names number []
+abbrev pub universal_name : ℕ → List ℕ
+universal_name number = get_or universal_names number []
 
 -- the text, or else the other one where it is empty
 abbrev pub text_or : List ℕ → List ℕ → List ℕ
@@ -22,12 +22,12 @@ text_or [] other = other
 text_or (first ∷ more) other = first ∷ more
 
 -- the number in decimal and in hexadecimal
-abbrev pub number_text : ℕ → List ℕ
-number_text number = codes "Tag(" ++ decimal number ++ codes " / 0x" ++ radix_digits 16 false number ++ codes ")"
+abbrev pub tag_number_text : ℕ → List ℕ
+tag_number_text number = codes "Tag(" ++ decimal number ++ codes " / 0x" ++ radix_digits 16 false number ++ codes ")"
 
 -- how a tag number is shown: by its name, or else as a number
-abbrev pub tag_text : ℕ → List ℕ
-tag_text number = text_or (name_of number) (number_text number)
+abbrev pub tag_name_text : ℕ → List ℕ
+tag_name_text number = text_or (universal_name number) (tag_number_text number)
 
 -- The tag number of sequences or of sets, whose elements are constructed (X.690 8.9.1, 8.11.1).
 abbrev pub is_container_number : ℕ → Bool

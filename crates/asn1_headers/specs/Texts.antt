@@ -21,10 +21,10 @@ needed_text Unknown = codes "octets are missing"
 needed_text (Size n) = if nat_eq n 1 then codes "1 octet is missing" else decimal n ++ codes " octets are missing"
 
 -- what is missing, or the text of the error that is held
-abbrev pub refusal_text : {E : Type 0} → (E → Option (List ℕ)) → Refusal E → Option (List ℕ)
-refusal_text text (truncated n) = Some (needed_text n)
-refusal_text text (refused e) = text e
-refusal_text text (failed e) = text e
+abbrev pub err_text : {E : Type 0} → (E → Option (List ℕ)) → Refusal E → Option (List ℕ)
+err_text text (truncated n) = Some (needed_text n)
+err_text text (refused e) = text e
+err_text text (failed e) = text e
 
 -- which part is expected and which one was found, by their names; or that the part is not expected
 abbrev pub unexpected_text : {T : Type 0} → (T → Option (List ℕ)) → List ℕ → Option T → T → Option (List ℕ)

@@ -5,7 +5,7 @@ ghost use Rattle.std.specs.Prelude.{vec_len, IsTrue, true, false, IfOk, IfErr, E
 ghost use Rattle.x690.specs.Strict.{header_octets, identifier_octets};
 ghost use Rattle.asn1_headers.specs.Error.{tells_of_io};
 ghost use Rattle.asn1_headers.specs.Header.Writing.{parts_identifier, strict_header};
-ghost use Rattle.asn1_headers.specs.Prepended.{IsLengthOrMemory, Prepended, IsPut, refusal_of, answer_of};
+ghost use Rattle.asn1_headers.specs.Prepended.{IsLengthOrMemory, Prepended, IsPut, no_room_refusal, answer_of};
 ghost use Rattle.asn1_headers.specs.Writer.{MayRefuse};
 
 use crate::class::Class;
@@ -137,7 +137,7 @@ enum NoRoom {
 impl NoRoom {
     /// What a caller is told of it.
     fn refusal(self) -> SerializeError
-        ensures { result ≡ refusal_of self }
+        ensures { result ≡ no_room_refusal self }
     {
         match self {
             NoRoom::PastUsize => SerializeError::InvalidLength,

@@ -1,6 +1,6 @@
 //! Why a reading or a writing is refused.
 ghost use Rattle.std.specs.Prelude.{◌≡◌, ◌↔◌, IsTrue, ℕ, Bool, true, false};
-ghost use Rattle.asn1_headers.specs.Error.{Converted, HeldIn, FlattenedTo, IsTruncated, needed_of, tells_of_io};
+ghost use Rattle.asn1_headers.specs.Error.{Converted, ErrorIs, FlattenedTo, IsTruncated, needed_of, tells_of_io};
 ghost use Rattle.asn1_headers.specs.Error.{written_refusal, vector_refusal};
 ghost use Rattle.asn1_headers.specs.declared.error.Err.TheVariants.{Error as refused};
 ghost use Rattle.asn1_headers.specs.declared.error.Error.TheVariants as errors;
@@ -77,7 +77,7 @@ impl<E> Err<E> {
 
     /// The same refusal with its error changed by the closure, which is not called on `Incomplete`.
     pub fn map<F, C: FnOnce(E) -> F + Drop>(self, f: C) -> Err<F>
-        requires { HeldIn (C.pre f) self }
+        requires { ErrorIs (C.pre f) self }
         ensures { Converted (C.post f) self result }
     {
         match self {

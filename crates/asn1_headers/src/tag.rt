@@ -2,7 +2,7 @@
 ghost use Rattle.std.specs.Prelude.{◌≡◌, ◌≢◌, ◌≤◌, ◌<◌, length, Some, IfSome, IfNone, MatchResult, []};
 ghost use Rattle.asn1_headers.specs.Error.{IsInvalidValue, IsInvalidValueOf};
 ghost use Rattle.asn1_headers.specs.Message.{IsLongestBeginning};
-ghost use Rattle.asn1_headers.specs.Tag.{name_of, tag_text, is_container};
+ghost use Rattle.asn1_headers.specs.Tag.{universal_name, tag_name_text, is_container};
 ghost use Rattle.asn1_headers.specs.declared.error.Error.TheVariants as errors;
 
 use crate::error::Error;
@@ -137,8 +137,8 @@ impl Tag {
     /// The name of the universal type with this number.
     pub(crate) fn name(self) -> Option<&'static str>
         ensures some { IfSome result
-            (λ name. (name.now ≡ tag_text self.0) × (name_of self.0 ≢ [])) }
-        ensures none { IfNone result (name_of self.0 ≡ []) }
+            (λ name. (name.now ≡ tag_name_text self.0) × (universal_name self.0 ≢ [])) }
+        ensures none { IfNone result (universal_name self.0 ≡ []) }
     {
         let name = match self.0 {
             0 => "EndOfContent",
@@ -222,7 +222,7 @@ impl From<u32> for Tag {
 }
 
 impl fmt::Display for Tag {
-    ghost output = { λ tag. Some (tag_text tag.0) };
+    ghost output = { λ tag. Some (tag_name_text tag.0) };
 
     fn fmt<W: fmt::Write>(&self, f: &mut fmt::Formatter<W>) -> fmt::Result {
         let number = self.0;

@@ -1,7 +1,7 @@
 //! What people read of refusals: in lower case, without a full stop, tags by their numbers, classes by their names. The
 //! class of a tag is not known where it is told of, so the name of a universal type is not said.
 ghost use Rattle.std.specs.Prelude.{Some, codes};
-ghost use Rattle.asn1_headers.specs.Texts.{class_name, needed_text, refusal_text, unexpected_text};
+ghost use Rattle.asn1_headers.specs.Texts.{class_name, needed_text, err_text, unexpected_text};
 
 use crate::class::{BerClassFromIntError, Class};
 use crate::error::{Err, Needed};
@@ -21,7 +21,7 @@ impl fmt::Display for Needed {
 }
 
 impl<E: fmt::Display> fmt::Display for Err<E> {
-    ghost output = { refusal_text E.output };
+    ghost output = { err_text E.output };
 
     fn fmt<W: fmt::Write>(&self, f: &mut fmt::Formatter<W>) -> fmt::Result {
         match self {

@@ -11,7 +11,7 @@ use Rattle.x690.specs.Characters.{utf16_octets, ucs4_octets}
 use Rattle.asn1_schema.specs.declared.schema.TextKind.{TextKind}
 use Rattle.asn1_schema.specs.declared.schema.TextKind.TheVariants as texts
 use Rattle.asn1_json.specs.DenotedLeaves.{DenotesText}
-use Rattle.asn1_json.specs.Found.{Finds}
+use Rattle.asn1_json.specs.Found.{FindsOnly}
 
 module _ (s o : List ℕ) (u : IsUtf8 s) where
   -- the one text in UTF-16, and in UCS-4
@@ -67,8 +67,8 @@ other_octets texts.Descriptor s o a b c d = d
 
 pub if_text : {E : Type 0} (kind : TextKind) (s : List ℕ) (r : Result (Option (Vec ℕ Global)) E) → (kind ≡ texts.Utf8 → ⊥) →
     (kind ≡ texts.Bmp → ⊥) → (kind ≡ texts.Universal → ⊥) →
-    IfOk r (Finds (λ octets. octets.items) (λ o. IsOctets o × (s ≡ encode_utf8_all o))) →
-    IfOk r (Finds (λ octets. octets.items) (DenotesText kind s))
+    IfOk r (FindsOnly (λ octets. octets.items) (λ o. IsOctets o × (s ≡ encode_utf8_all o))) →
+    IfOk r (FindsOnly (λ octets. octets.items) (DenotesText kind s))
 if_text kind s (Ok (Some v)) a b c d = (
   other_text kind s v.items a b c d.0.0 d.0.1,
   (λ x f. d.1 x (other_octets kind s x a b c f)),
@@ -80,7 +80,7 @@ if_text kind s (Err x) a b c d = tt
 pub numbers_found : {E : Type 0} (s : List ℕ) (r : Result (Option (Vec ℕ Global)) E) → IsUtf8 s →
     IfOk r (λ found. IfSome found (λ octets. IsOctets octets.items)) →
     IfOk r (λ found. MatchOption found (IsOctets (chars s) → ⊥) (λ octets. octets.items ≡ chars s)) →
-    IfOk r (Finds (λ octets. octets.items) (λ o. IsOctets o × (s ≡ encode_utf8_all o)))
+    IfOk r (FindsOnly (λ octets. octets.items) (λ o. IsOctets o × (s ≡ encode_utf8_all o)))
 numbers_found s (Ok (Some v)) u d e = ((d, spelt s v.items u e), (λ x f. spelt_chars s x u f.1 ∙ sym e))
 numbers_found s (Ok None) u d e = λ x f. e (subst IsOctets (spelt_chars s x u f.1) f.0)
 numbers_found s (Err x) u d e = tt

@@ -10,7 +10,7 @@ use Rattle.json.specs.Word.{head, after_whole, after_fraction, after_exponent, a
 use Rattle.json.specs.Print.{IsNumber}
 use Rattle.json.proofs.Printed.Utf8.{are_ascii, IsUtf8-are_ascii}
 use Rattle.asn1_words.specs.Words.{number_text, integer_text}
-use Rattle.asn1_words.specs.Numbers.{arcs_text, more_arcs_text}
+use Rattle.asn1_words.specs.Numbers.{dotted_arcs, more_arcs_text}
 
 abbrev shown : List ℕ → List ℕ
 shown ds = map (λ d. 48 + d) ds
@@ -84,7 +84,7 @@ more_arcs_are_ascii [] = refl
 more_arcs_are_ascii (arc ∷ arcs) = both (codes "." ++ number_text arc) (more_arcs_text arcs)
     (both (codes ".") (number_text arc) refl (number_is_ascii arc)) (more_arcs_are_ascii arcs)
 
-arcs_are_ascii : (arcs : List ℕ) → are_ascii (arcs_text arcs) ≡ true
+arcs_are_ascii : (arcs : List ℕ) → are_ascii (dotted_arcs arcs) ≡ true
 arcs_are_ascii [] = refl
 arcs_are_ascii (arc ∷ arcs) = both (number_text arc) (more_arcs_text arcs) (number_is_ascii arc) (more_arcs_are_ascii arcs)
 
@@ -94,5 +94,5 @@ number_is_utf8 n = IsUtf8-are_ascii (number_text n) (number_is_ascii n)
 pub integer_is_utf8 : (z : ℤ) → IsUtf8 (integer_text z)
 integer_is_utf8 z = IsUtf8-are_ascii (integer_text z) (integer_is_ascii z)
 
-pub arcs_are_utf8 : (arcs : List ℕ) → IsUtf8 (arcs_text arcs)
-arcs_are_utf8 arcs = IsUtf8-are_ascii (arcs_text arcs) (arcs_are_ascii arcs)
+pub arcs_are_utf8 : (arcs : List ℕ) → IsUtf8 (dotted_arcs arcs)
+arcs_are_utf8 arcs = IsUtf8-are_ascii (dotted_arcs arcs) (arcs_are_ascii arcs)

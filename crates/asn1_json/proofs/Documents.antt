@@ -4,7 +4,7 @@ use Rattle.json.specs.Json.{Json, array, object, Items, item, Members, member, n
 use Rattle.json.specs.Token.{Token, begin_object, end_object, begin_array, end_array, key}
 use Rattle.json.specs.Tree.{json_tokens, items_tokens, members_tokens}
 use Rattle.asn1_schema.specs.declared.names.PartName.{PartName}
-use Rattle.asn1_schema.specs.Values.{Leaf, boolean, null, integer, enumerated, bits, octets, identifier, text, time, any}
+use Rattle.asn1_schema.specs.Values.{LeafValue, boolean, null, integer, enumerated, bits, octets, identifier, text, time, any}
 use Rattle.asn1_schema.specs.Values.{Value, Values, leaf, row, chosen, none, absent, more}
 use Rattle.asn1_json.specs.Leaves.{leaf_tokens, listed_token, name_of}
 use Rattle.asn1_json.specs.Types.{resolved, labels_at}
@@ -16,7 +16,7 @@ listed_tokens : (name : List ℕ) (n : ℤ) → json_tokens (listed_tree name n)
 listed_tokens [] n = refl
 listed_tokens (c ∷ cs) n = refl
 
-leaf_is : (labels : List PartName) (l : Leaf) → json_tokens (leaf_tree labels l) ≡ leaf_tokens labels l
+leaf_is : (labels : List PartName) (l : LeafValue) → json_tokens (leaf_tree labels l) ≡ leaf_tokens labels l
 leaf_is labels (boolean b) = refl
 leaf_is labels null = refl
 leaf_is labels (integer n) = refl

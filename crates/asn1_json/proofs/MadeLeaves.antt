@@ -5,11 +5,11 @@ use Rattle.json.specs.Json.{Json, boolean, number, string, object, Members, no_m
 use Rattle.asn1_schema.specs.declared.schema.Kind.{Kind}
 use Rattle.asn1_schema.specs.declared.schema.Kind.TheVariants as kinds
 use Rattle.asn1_schema.specs.declared.names.PartName.{PartName}
-use Rattle.asn1_schema.specs.Values.{Leaf, Value, leaf}
+use Rattle.asn1_schema.specs.Values.{LeafValue, Value, leaf}
 use Rattle.asn1_json.specs.DenotedLeaves.{DenotesLeaf}
 use Rattle.asn1_json.specs.Denotes.{DenotesKind}
-use Rattle.asn1_json.specs.Found.{Finds}
-use Rattle.asn1_json.specs.Outcomes.{DenotesSimple, HaveNone, Makes, Reads}
+use Rattle.asn1_json.specs.Found.{FindsOnly}
+use Rattle.asn1_json.specs.Outcomes.{DenotesSimple, HaveNone, Makes, ReadsDenoted}
 use Rattle.asn1_json.specs.Tokens.{Types}
 use Rattle.asn1_json.specs.Types.{labels_at}
 use Rattle.std.specs.Prelude.{Some, None}
@@ -24,9 +24,11 @@ pub none_is : {X : Type 0} (N : Type 0) (P : X → Type 0) (o : Option X) → o 
 none_is {X} N P o e m = subst (λ (f : Option X). MatchOption f N P) e m
 
 -- what `put` puts is denoted, and it is the only such value that has a strict encoding
-pub put_leaf : (l : Leaf) (labels : List PartName) (kind : Kind) (j : Json) (W : Value → Type 0) (old new : OwnedTape)
-    (r : Result (Unit {0}) Fault) → Reads (λ v. v ≡ leaf l) W old new r → DenotesLeaf labels kind j l →
-    ((m : Leaf) → DenotesLeaf labels kind j m → W (leaf m) → m ≡ l) → Reads (DenotesSimple labels kind j) W old new r
+pub put_leaf : (l : LeafValue) (labels : List PartName) (kind : Kind) (j : Json) (W : Value → Type 0)
+    (old new : OwnedTape)
+    (r : Result (Unit {0}) Fault) → ReadsDenoted (λ v. v ≡ leaf l) W old new r → DenotesLeaf labels kind j l →
+    ((m : LeafValue) → DenotesLeaf labels kind j m → W (leaf m) → m ≡ l) →
+    ReadsDenoted (DenotesSimple labels kind j) W old new r
 put_leaf l labels kind j W old new (Ok x) p d only = record {
   kept = p.kept;
   denotes = (
@@ -38,20 +40,22 @@ put_leaf l labels kind j W old new (Ok x) p d only = record {
 put_leaf l labels kind j W old new (Err x) p d only = λ refused v e w.
     p refused v (e.1 ∙ ap leaf (only e.0 e.2 (subst W e.1 w))) w
 
-pub put_made : (l : Leaf) (labels : List PartName) (kind : Kind) (j : Json) (W : Value → Type 0) (old new : OwnedTape)
-    (r : Result (Unit {0}) Fault) → Reads (λ v. v ≡ leaf l) W old new r → DenotesLeaf labels kind j l →
+pub put_made : (l : LeafValue) (labels : List PartName) (kind : Kind) (j : Json) (W : Value → Type 0)
+    (old new : OwnedTape)
+    (r : Result (Unit {0}) Fault) → ReadsDenoted (λ v. v ≡ leaf l) W old new r → DenotesLeaf labels kind j l →
     OnOk r (Makes (DenotesSimple labels kind j) old new)
 put_made l labels kind j W old new (Ok x) p d = record { kept = p.kept; denotes = (l, p.denotes.0, d); put = p.put }
 put_made l labels kind j W old new (Err x) p d = tt
 
 -- what is read is made
-pub reads_makes : (D W : Value → Type 0) (old new : OwnedTape) (r : Result (Unit {0}) Fault) → Reads D W old new r →
+pub reads_makes : (D W : Value → Type 0) (old new : OwnedTape) (r : Result (Unit {0}) Fault) →
+    ReadsDenoted D W old new r →
     OnOk r (Makes D old new)
 reads_makes D W old new (Ok x) p = record { kept = p.kept; denotes = p.denotes.0; put = p.put }
 reads_makes D W old new (Err x) p = tt
 
 -- what is found is one of those
-pub finds_some : {A V E : Type 0} (f : A → V) (P : V → Type 0) (r : Result (Option A) E) → IfOk r (Finds f P) →
+pub finds_some : {A V E : Type 0} (f : A → V) (P : V → Type 0) (r : Result (Option A) E) → IfOk r (FindsOnly f P) →
     IfOk r (λ found. IfSome found (λ a. P (f a)))
 finds_some f P (Ok (Some a)) p = p.0
 finds_some f P (Ok None) p = tt
@@ -59,7 +63,7 @@ finds_some f P (Err e) p = tt
 
 -- no value without parts is denoted
 pub no_leaf : (labels : List PartName) (kind : Kind) (j : Json) (W : Value → Type 0) →
-    ((m : Leaf) → DenotesLeaf labels kind j m → ⊥) → HaveNone (DenotesSimple labels kind j) W
+    ((m : LeafValue) → DenotesLeaf labels kind j m → ⊥) → HaveNone (DenotesSimple labels kind j) W
 no_leaf labels kind j W none v d w = none d.0 d.2
 
 -- what a document without parts holds
@@ -93,7 +97,7 @@ module _ (P : List ℕ → List ℕ → Type 0) (s : List ℕ) (j : Json) (is : 
   pub text_there : (t x : List ℕ) → j ≡ string t → P t x → P s x
   text_there t x e p = subst (λ (u : List ℕ). P u x) (sym (same_text s t (sym is ∙ e))) p
 
-  pub one_said : (f : List ℕ → Leaf) (own : List ℕ) (o : List ℕ) → own ≡ o → ((x : List ℕ) → P s x → x ≡ own) → (m : Leaf) →
+  pub one_said : (f : List ℕ → LeafValue) (own : List ℕ) (o : List ℕ) → own ≡ o → ((x : List ℕ) → P s x → x ≡ own) → (m : LeafValue) →
       ((t x : List ℕ) × (j ≡ string t) × P t x × (m ≡ f x)) → m ≡ f o
   one_said f own o same only m d = d.4 ∙ ap f (only d.1 (text_there d.0 d.1 d.2 d.3) ∙ same)
 

@@ -1,6 +1,6 @@
 -- What the pieces of a leaf join to.
 use Rattle.std.proofs.Common.{◌≡◌, ◌∙◌, ap, refl, ℕ, suc, Bool, true, false, List, [], ◌∷◌, ◌++◌, map, length, arith}
-use Rattle.asn1_schema.specs.Values.{Leaf, leaf, bits, octets, text, time, joined}
+use Rattle.asn1_schema.specs.Values.{LeafValue, leaf, bits, octets, text, time, joined}
 use Rattle.asn1_schema.specs.declared.tape.Item.{Item}
 use Rattle.asn1_schema.specs.Tape.{Mark, marks, leaf_mark, pieces_mark, pieces_end_mark, Sort, of_octets, of_text, of_time, string}
 use Rattle.asn1_schema.specs.Tape.{Kept, kept_leaf, kept_string, kept_bits, kept_row, kept_chosen, value_of, tape_of}
@@ -23,7 +23,7 @@ bits_joined (b ∷ bs) = ap (λ (z : List Bool). b ++ z) (bits_joined bs)
 abbrev pub IsInside : List Mark → List Mark → Type 0
 IsInside here inner = (first last : Mark) (ms : List Mark) → here ≡ first ∷ (ms ++ last ∷ []) → inner ≡ ms
 
-pub pieces_join : (k : Kept) (l : Leaf) (here inner : List Mark) → here ≡ tape_of k → value_of k ≡ leaf l →
+pub pieces_join : (k : Kept) (l : LeafValue) (here inner : List Mark) → here ≡ tape_of k → value_of k ≡ leaf l →
     begins_pieces here ≡ true → IsInside here inner → joined_leaf inner ≡ l
 pieces_join (kept_leaf m) l here inner at v p truncated = let g = ap begins_pieces at in absurd (cc)
 pieces_join (kept_string s o os) l here inner at v p truncated =
@@ -37,7 +37,7 @@ pieces_join (kept_bits b bs) l here inner at v p truncated =
 pieces_join (kept_row ks) l here inner at v p truncated = absurd (cc)
 pieces_join (kept_chosen arm w) l here inner at v p truncated = absurd (cc)
 
-pub leaf_joins : (k : Kept) (l : Leaf) (here : List Mark) → here ≡ tape_of k → value_of k ≡ leaf l →
+pub leaf_joins : (k : Kept) (l : LeafValue) (here : List Mark) → here ≡ tape_of k → value_of k ≡ leaf l →
     begins_pieces here ≡ false → joined_leaf here ≡ l
 leaf_joins (kept_leaf m) l here at v p =
     let is : m ≡ l = cc in ap joined_leaf at ∙ one_leaf m ∙ is

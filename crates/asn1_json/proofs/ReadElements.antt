@@ -8,7 +8,7 @@ use Rattle.x690.specs.Strict.{definite_parts, element_octets}
 use Rattle.x690.specs.Laws.Faults.{der_fault_counts, no_der_element, speaks_now}
 use Rattle.x690.specs.Laws.StrictElements.{der_allows_strict, der_element_strict, strict_element_octets, strict_is_definite}
 use Rattle.x690.specs.Laws.Words.{definite_words}
-use Rattle.asn1_headers.specs.Answers.{Front}
+use Rattle.asn1_headers.specs.Answers.{HasPrefix}
 use Rattle.asn1_headers.specs.Class.{class_number}
 use Rattle.asn1_headers.specs.Elements.{element_parts}
 use Rattle.asn1_headers.specs.Header.{identifier_of}
@@ -39,7 +39,7 @@ not_strict o fault why id c s =
     (speaks_now (IsTruncatedIdentifier o) fault (der_fault_counts o fault why))
     (strict_is_definite der_rule der_allows_strict o id c s) refl
 
-module _ (o : List ℕ) (h : Header) (content rest : List ℕ) (front : Front IsDerElement o (element_parts h content) rest) where
+module _ (o : List ℕ) (h : Header) (content rest : List ℕ) (front : HasPrefix IsDerElement o (element_parts h content) rest) where
   strict : IsStrictElement front.word (identifier_of h) content
   strict = der_element_strict front.word (element_parts h content) front.fits
 

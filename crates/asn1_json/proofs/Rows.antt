@@ -12,7 +12,7 @@ use Rattle.asn1_schema.specs.Grammar.{Body, LeftOut}
 use Rattle.asn1_schema.specs.Rules.{der}
 use Rattle.asn1_schema.specs.Tape.{Mark, Kept, KeptRow, kept_leaf, kept_row, kept_chosen, kept_none, kept_absent, kept_more, value_of, values_of, tape_of, tapes_of}
 use Rattle.asn1_schema.specs.Tape.{leaf_mark, absent_mark, begin_mark, end_mark, arm_mark, arm_end_mark, between}
-use Rattle.asn1_schema.specs.Values.{Leaf, Value, Values, leaf, row, chosen, none, absent, more}
+use Rattle.asn1_schema.specs.Values.{LeafValue, Value, Values, leaf, row, chosen, none, absent, more}
 use Rattle.asn1_schema.specs.declared.owned.OwnedTape.{OwnedTape}
 use Rattle.asn1_json.specs.Tokens.{Types, name_of_field}
 use Rattle.asn1_schema.specs.Owned.{owned_marks}
@@ -74,7 +74,7 @@ makes_as D E old new e m = record { kept = m.kept; denotes = e (value_of m.kept)
 pub row_as : (D E : Values → Type 0) (old new : OwnedTape) → ((vs : Values) → D vs → E vs) → MakesRow D old new → MakesRow E old new
 row_as D E old new e m = record { kept = m.kept; denotes = e (values_of m.kept) m.denotes; put = m.put }
 
-pub leaf_made : (D : Value → Type 0) (old new : OwnedTape) (l : Leaf) → Appends old new (leaf_mark l ∷ []) → D (leaf l) → Makes D old new
+pub leaf_made : (D : Value → Type 0) (old new : OwnedTape) (l : LeafValue) → Appends old new (leaf_mark l ∷ []) → D (leaf l) → Makes D old new
 leaf_made D old new l a d = record { kept = kept_leaf l; denotes = d; put = a }
 
 -- one item more

@@ -5,7 +5,7 @@ use Rattle.std.proofs.Common.{◌⊎◌, inl, inr}
 use Rattle.std.proofs.lemmas.Bool.{le-ltb}
 use Rattle.std.proofs.lemmas.List.{reverse-append}
 use Rattle.json.specs.Token.{Token, begin_object, end_object, begin_array, end_array, key}
-use Rattle.asn1_schema.specs.Values.{Leaf, leaf, Value, Values, row, none, absent, more, bits, joined}
+use Rattle.asn1_schema.specs.Values.{LeafValue, leaf, Value, Values, row, none, absent, more, bits, joined}
 use Rattle.asn1_schema.specs.Tape.{Mark, end_mark, arm_end_mark, string}
 use Rattle.asn1_schema.specs.Tape.{Kept, KeptRow, kept_leaf, kept_string, kept_bits, kept_row, kept_chosen, kept_none, kept_absent, kept_more}
 use Rattle.asn1_schema.specs.Tape.{value_of, values_of, tape_of, tapes_of}
@@ -19,12 +19,13 @@ use Rattle.asn1_json.specs.Leaves.{leaf_tokens}
 use Rattle.asn1_json.specs.Types.{labels_at, resolved}
 use Rattle.asn1_json.specs.Tokens.{Types, tokens_of, tokens_of_items, tokens_of_fields, row_tokens, type_of_arm, name_of_arm, type_of_members}
 use Rattle.asn1_json.specs.Tokens.{type_of_field, type_of_unknown, name_of_field, count_of_fields}
-use Rattle.asn1_json.specs.Walk.{front_of, items_end, row_marks, Await, Goes, AwaitNot, weight, OpensRow, BeginsField}
+use Rattle.asn1_json.specs.Walk.{front_of, items_end, row_marks, Await, Advances, AwaitNot, weight, OpensRow}
+use Rattle.asn1_json.specs.Walk.{BeginsField}
 
 -- Which values have which fronts.
 
 pub leaf_of_front : (k : Kept) (here rest : List Mark) → here ≡ tape_of k ++ rest →
-    front_of here ≡ fronts.Value openings.Leaf → (l : Leaf) × (value_of k ≡ leaf l)
+    front_of here ≡ fronts.Value openings.Leaf → (l : LeafValue) × (value_of k ≡ leaf l)
 leaf_of_front (kept_leaf l) here rest at f = (l, refl)
 leaf_of_front (kept_string s o os) here rest at f = (string s (joined (o ∷ os)), refl)
 leaf_of_front (kept_bits b bs) here rest at f = (bits (joined (b ∷ bs)), refl)
@@ -128,9 +129,9 @@ behind_tokens old new front others shown is written =
 pub leaf_goes : (types : Types) (of : Option ℕ) (fs : List Frame) (here behind : List Mark) (old new : List Token) →
     front_of here ≡ fronts.Value openings.Leaf →
     ((k : Kept) (rest : List Mark) → here ≡ tape_of k ++ rest → behind ≡ rest) →
-    ((k : Kept) (rest : List Mark) (l : Leaf) → here ≡ tape_of k ++ rest → value_of k ≡ leaf l →
+    ((k : Kept) (rest : List Mark) (l : LeafValue) → here ≡ tape_of k ++ rest → value_of k ≡ leaf l →
     new ≡ old ++ leaf_tokens (labels_at types.names (resolved types.table of)) l) →
-    Goes types (frames.Value of ∷ fs) here fs behind old new
+    Advances types (frames.Value of ∷ fs) here fs behind old new
 leaf_goes types of fs here behind old new f truncated written = λ shown w.
     let k = w.0 in
     let l = leaf_of_front k here w.1 w.3 f in
@@ -190,7 +191,7 @@ row_opens types of (Some t) before after ks n behind rest others shown old new e
 pub row_goes : (types : Types) (of : Option ℕ) (before after : List Frame) (here behind : List Mark) (old new : List Token) →
     front_of here ≡ fronts.Value openings.Row → behind ≡ drop 1 here →
     OpensRow (type_of_members types (resolved types.table of)) (resolved types.table of) before after old new →
-    Goes types (frames.Value of ∷ reverse before) here (reverse after) behind old new
+    Advances types (frames.Value of ∷ reverse before) here (reverse after) behind old new
 row_goes types of before after here behind old new f truncated opens = λ shown w.
     let r = row_of_front w.0 here w.1 w.3 f in
     let is = w.4 ∙ ap (λ (k : Kept). tokens_of types of (value_of k) ++ w.2) r.2 in
@@ -201,7 +202,7 @@ pub arm_goes : (types : Types) (of : Option ℕ) (arm : ℕ) (before after : Lis
     (old new : List Token) → front_of here ≡ fronts.Value (openings.Arm arm) → behind ≡ drop 1 here →
     after ≡ (before ++ frames.ArmEnd ∷ []) ++ frames.Value (type_of_arm types (resolved types.table of) arm) ∷ [] →
     new ≡ (old ++ begin_object ∷ []) ++ key (name_of_arm types (resolved types.table of) arm) ∷ [] →
-    Goes types (frames.Value of ∷ reverse before) here (reverse after) behind old new
+    Advances types (frames.Value of ∷ reverse before) here (reverse after) behind old new
 arm_goes types of arm before after here behind old new f truncated opens written = λ shown w.
     let r = arm_of_front w.0 here w.1 arm w.3 f in
     let name = key (name_of_arm types (resolved types.table of) arm) in
@@ -263,7 +264,7 @@ field_begins types at place false before after k ks n here rest others shown old
 pub field_goes : (types : Types) (at : Option ℕ) (place : ℕ) (before after : List Frame) (here : List Mark) (o : Opening)
     (old new : List Token) → front_of here ≡ fronts.Value o →
     BeginsField (nat_lt place (count_of_fields types at)) types at place before after old new →
-    Goes types (frames.Fields at place ∷ reverse before) here (reverse after) here old new
+    Advances types (frames.Fields at place ∷ reverse before) here (reverse after) here old new
 field_goes types at place before after here o old new f begins = λ shown w.
     let m = more_of_front w.0 w.1 here w.2 o w.4 f in
     let is = w.5 ∙ ap (λ (ks : KeptRow). tokens_of_fields types at place (values_of ks) ++ end_object ∷ w.3) m.2 in
@@ -272,7 +273,7 @@ field_goes types at place before after here o old new f begins = λ shown w.
 
 pub fields_end : (types : Types) (at : Option ℕ) (place : ℕ) (fs : List Frame) (here behind : List Mark) (old new : List Token) →
     front_of here ≡ fronts.Close → behind ≡ drop 1 here → new ≡ old ++ end_object ∷ [] →
-    Goes types (frames.Fields at place ∷ fs) here fs behind old new
+    Advances types (frames.Fields at place ∷ fs) here fs behind old new
 fields_end types at place fs here behind old new f truncated written = λ shown w.
     let m = end_of_front w.0 w.1 here w.2 w.4 f in
     let is : shown ≡ (end_object ∷ []) ++ w.3 =
@@ -285,7 +286,7 @@ fields_end types at place fs here behind old new f truncated written = λ shown 
 pub field_gone : (types : Types) (at : Option ℕ) (place next : ℕ) (before after : List Frame) (here behind : List Mark)
     (old : List Token) → front_of here ≡ fronts.Gone → behind ≡ drop 1 here → after ≡ before ++ frames.Fields at next ∷ [] →
     ((vs : Values) → tokens_of_fields types at next vs ≡ tokens_of_fields types at (suc place) vs) →
-    Goes types (frames.Fields at place ∷ reverse before) here (reverse after) behind old old
+    Advances types (frames.Fields at place ∷ reverse before) here (reverse after) behind old old
 field_gone types at place next before after here behind old f truncated pushed same = λ shown w.
     let m = gone_of_front w.0 w.1 here w.2 w.4 f in
     let is : shown ≡ tokens_of_fields types at next (values_of m.0) ++ end_object ∷ w.3 =
@@ -306,7 +307,7 @@ beyond types at place (more v vs) le = rw (le-ltb place (count_of_fields types a
 pub item_goes : (types : Types) (of : Option ℕ) (are_unknown : Bool) (before after : List Frame) (here : List Mark) (o : Opening)
     (old : List Token) → front_of here ≡ fronts.Value o →
     after ≡ (before ++ frames.Items of are_unknown ∷ []) ++ frames.Value of ∷ [] →
-    Goes types (frames.Items of are_unknown ∷ reverse before) here (reverse after) here old old
+    Advances types (frames.Items of are_unknown ∷ reverse before) here (reverse after) here old old
 item_goes types of are_unknown before after here o old f pushed = λ shown w.
     let m = more_of_front w.0 w.1 here w.2 o w.4 f in
     let inner = tokens_of types of (value_of m.0) in
@@ -323,7 +324,7 @@ item_goes types of are_unknown before after here o old f pushed = λ shown w.
 
 pub items_end_goes : (types : Types) (of : Option ℕ) (are_unknown : Bool) (fs : List Frame) (here behind : List Mark)
     (old new : List Token) → front_of here ≡ fronts.Close → behind ≡ drop 1 here → new ≡ old ++ items_end are_unknown →
-    Goes types (frames.Items of are_unknown ∷ fs) here fs behind old new
+    Advances types (frames.Items of are_unknown ∷ fs) here fs behind old new
 items_end_goes types of are_unknown fs here behind old new f truncated written = λ shown w.
     let m = end_of_front w.0 w.1 here w.2 w.4 f in
     let is : shown ≡ items_end are_unknown ++ w.3 =
@@ -336,7 +337,7 @@ items_end_goes types of are_unknown fs here behind old new f truncated written =
 pub item_gone : (types : Types) (of : Option ℕ) (are_unknown : Bool) (before after : List Frame) (here behind : List Mark)
     (old : List Token) → front_of here ≡ fronts.Gone → behind ≡ drop 1 here →
     after ≡ before ++ frames.Items of are_unknown ∷ [] →
-    Goes types (frames.Items of are_unknown ∷ reverse before) here (reverse after) behind old old
+    Advances types (frames.Items of are_unknown ∷ reverse before) here (reverse after) behind old old
 item_gone types of are_unknown before after here behind old f truncated pushed = λ shown w.
     let m = gone_of_front w.0 w.1 here w.2 w.4 f in
     let is : shown ≡ tokens_of_items types of (values_of m.0) ++ (items_end are_unknown ++ w.3) =
@@ -375,7 +376,8 @@ light (frames.ArmEnd ∷ fs) = omega arith
 
 -- Steps one behind another.
 pub goes_on : (types : Types) (fs gs hs : List Frame) (here behind rest : List Mark) (old mid new : List Token) →
-    Goes types fs here gs behind old mid → Goes types gs behind hs rest mid new → Goes types fs here hs rest old new
+    Advances types fs here gs behind old mid → Advances types gs behind hs rest mid new →
+    Advances types fs here hs rest old new
 goes_on types fs gs hs here behind rest old mid new a b = λ shown w.
     let x = a shown w in
     let y = b x.0 x.1 in

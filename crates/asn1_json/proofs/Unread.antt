@@ -8,7 +8,7 @@ use Rattle.json.specs.declared.value.Value.{Value, String, Number, Bool as Truth
 use Rattle.asn1_schema.specs.declared.names.PartName.{PartName}
 use Rattle.asn1_schema.specs.declared.schema.Kind.{Kind}
 use Rattle.asn1_schema.specs.declared.schema.Kind.TheVariants as kinds
-use Rattle.asn1_schema.specs.Values.{Leaf}
+use Rattle.asn1_schema.specs.Values.{LeafValue}
 use Rattle.asn1_json.specs.DenotedLeaves.{DenotesInteger, DenotesLeaf, DenotesListed}
 use Rattle.asn1_json.proofs.Views.{view_cases}
 
@@ -43,7 +43,7 @@ module _ {A : Type 0} (v : Value A) where
       (λ s e f. not s e) (λ xs e f. f) (λ ms e f. f)
 
 -- a kind of values with parts
-pub no_kind : (labels : List PartName) (kind : Kind) (j : Json) (m : Leaf) → (kind ≡ kinds.Boolean → ⊥) → (kind ≡ kinds.Null → ⊥) →
+pub no_kind : (labels : List PartName) (kind : Kind) (j : Json) (m : LeafValue) → (kind ≡ kinds.Boolean → ⊥) → (kind ≡ kinds.Null → ⊥) →
     (kind ≡ kinds.Integer → ⊥) → ((ns : _) (x : Bool) → kind ≡ kinds.Enumerated ns x → ⊥) → ((x : Bool) → kind ≡ kinds.Bits x → ⊥) →
     (kind ≡ kinds.Octets → ⊥) → ((x : Bool) → kind ≡ kinds.Identifier x → ⊥) → ((x : _) → kind ≡ kinds.Text x → ⊥) →
     ((x : _) → kind ≡ kinds.Time x → ⊥) → (kind ≡ kinds.Any → ⊥) → DenotesLeaf labels kind j m → ⊥

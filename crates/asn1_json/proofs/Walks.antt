@@ -2,7 +2,7 @@
 use Rattle.std.proofs.Common.{◌≡◌, ◌∙◌, ap, sym, refl, subst, Bool, true, false, ℕ, suc, ◌<◌, ◌≤◌, List, [], ◌∷◌, ◌++◌, length, reverse, drop, Option, nat_lt, arith}
 use Rattle.std.proofs.lemmas.List.{length-map, drop-map}
 use Rattle.json.specs.Token.{Token, begin_object, end_object, key}
-use Rattle.asn1_schema.specs.Values.{Leaf, Values, leaf}
+use Rattle.asn1_schema.specs.Values.{LeafValue, Values, leaf}
 use Rattle.asn1_schema.specs.declared.tape.Item.{Item}
 use Rattle.asn1_schema.specs.Tape.{Kept, Mark, mark, marks, tape_of, value_of}
 use Rattle.asn1_json.specs.declared.walk.Frame.{Frame}
@@ -14,7 +14,7 @@ use Rattle.asn1_json.specs.declared.front.Opening.TheVariants as openings
 use Rattle.asn1_json.specs.Leaves.{leaf_tokens}
 use Rattle.asn1_json.specs.Types.{labels_at, resolved}
 use Rattle.asn1_json.specs.Tokens.{Types, tokens_of_fields, type_of_arm, name_of_arm, type_of_members, count_of_fields}
-use Rattle.asn1_json.specs.Walk.{front_of, items_end, AwaitNot, Steps, weight, steps_left, OpensRow, BeginsField}
+use Rattle.asn1_json.specs.Walk.{front_of, items_end, AwaitNot, Steps, weight, steps_to_come, OpensRow, BeginsField}
 use Rattle.asn1_json.proofs.Steps.{light, two_last, leaf_goes, row_goes, arm_goes, field_goes, fields_end, field_gone, item_goes, items_end_goes, item_gone, no_value}
 
 -- a mark is taken
@@ -25,13 +25,13 @@ taken (m ∷ ms) behind f e some truncated = let is = ap (λ (x : List Mark). le
 
 -- so a step is made
 fewer_behind : (f : Frame) (fs gs : List Frame) (here behind : List Mark) → length behind < length here →
-    1 ≤ weight (f ∷ fs) → steps_left gs (length behind) < steps_left (f ∷ fs) (length here)
+    1 ≤ weight (f ∷ fs) → steps_to_come gs (length behind) < steps_to_come (f ∷ fs) (length here)
 fewer_behind f fs gs here behind shorter some = let few = light gs in omega (arith, few, shorter, some)
 
 -- a value is awaited where none was
 fewer_frames : (f : Frame) (fs before after : List Frame) (g h : Frame) (here : List Mark) →
     after ≡ (before ++ g ∷ []) ++ h ∷ [] → weight (h ∷ g ∷ reverse before) ≡ 1 → weight (f ∷ fs) ≡ 2 →
-    steps_left (reverse after) (length here) < steps_left (f ∷ fs) (length here)
+    steps_to_come (reverse after) (length here) < steps_to_come (f ∷ fs) (length here)
 fewer_frames f fs before after g h here is one two =
     let last : weight (reverse after) ≡ 1 = ap (λ (x : List Frame). weight (reverse x)) is ∙ ap weight (two_last before g h) ∙ one in
     omega (arith, last, two)
@@ -52,7 +52,7 @@ module _ (types : Types) (before : List Frame) (here behind : List Mark) (old ne
   pub leaf_step : (of at : Option ℕ) → at ≡ resolved types.table of → front_of here ≡ fronts.Value openings.Leaf →
       length behind < length here →
       ((k : Kept) (rest : List Mark) → here ≡ tape_of k ++ rest → behind ≡ rest) →
-      ((k : Kept) (rest : List Mark) (l : Leaf) → here ≡ tape_of k ++ rest → value_of k ≡ leaf l →
+      ((k : Kept) (rest : List Mark) (l : LeafValue) → here ≡ tape_of k ++ rest → value_of k ≡ leaf l →
       new ≡ old ++ leaf_tokens (labels_at types.names at) l) →
       Steps types (frames.Value of ∷ reverse before) here (reverse before) behind old new
   leaf_step of at same f shorter truncated written = record {

@@ -5,12 +5,12 @@ use Rattle.asn1_schema.specs.Tape.{Kept, Mark, tape_of, value_of}
 use Rattle.asn1_json.specs.declared.walk.Frame.{Frame}
 use Rattle.asn1_json.specs.declared.walk.Frame.TheVariants as frames
 use Rattle.asn1_json.specs.Tokens.{Types, tokens_of}
-use Rattle.asn1_json.specs.Walk.{Await, Goes, AwaitNot, Steps}
+use Rattle.asn1_json.specs.Walk.{Await, Advances, AwaitNot, Steps}
 use Rattle.asn1_json.proofs.Steps.{last_first, goes_on}
 
 -- no step
 pub goes_nowhere : (types : Types) (fs gs : List Frame) (here : List Mark) (old : List Token) → gs ≡ fs →
-    Goes types fs here gs here old old
+    Advances types fs here gs here old old
 goes_nowhere types fs gs here old same = λ shown w.
     (shown, subst (λ (x : List Frame). Await types x here shown) (sym same) w, refl)
 
@@ -20,11 +20,12 @@ popped_first before popped f is = ap (λ (x : List Frame). reverse x) is ∙ las
 
 -- one step more
 pub goes_step : (types : Types) (start before popped after : List Frame) (f : Frame) (here mid behind : List Mark)
-    (old now new : List Token) → before ≡ popped ++ f ∷ [] → Goes types start here (reverse before) mid old now →
-    Steps types (f ∷ reverse popped) mid (reverse after) behind now new → Goes types start here (reverse after) behind old new
+    (old now new : List Token) → before ≡ popped ++ f ∷ [] → Advances types start here (reverse before) mid old now →
+    Steps types (f ∷ reverse popped) mid (reverse after) behind now new → Advances types start here (reverse after) behind old new
 goes_step types start before popped after f here mid behind old now new is goes step =
     goes_on types start (f ∷ reverse popped) (reverse after) here mid behind old now new
-    (subst (λ (x : List Frame). Goes types start here x mid old now) (popped_first before popped f is) goes) step.goes
+    (subst (λ (x : List Frame). Advances types start here x mid old now) (popped_first before popped f is) goes)
+    step.goes
 
 -- what is taken from none
 pub none_left : {X : Type 0} (r : Option X) (n m : ℕ) → ((x : X) → r ≡ Some x → ⊥) →
@@ -38,7 +39,7 @@ no_frames [] none = refl
 no_frames (f ∷ fs) none = absurd (omega (arith, none))
 
 module _ (types : Types) (of : Option ℕ) (gs : List Frame) (here behind : List Mark) (old new : List Token)
-    (goes : Goes types (frames.Value of ∷ []) here gs behind old new) (kept : Kept) (at : here ≡ tape_of kept) where
+    (goes : Advances types (frames.Value of ∷ []) here gs behind old new) (kept : Kept) (at : here ≡ tape_of kept) where
   -- what is awaited there
   awaited : (others : List Token) × Await types gs behind others ×
       (old ++ (tokens_of types of (value_of kept) ++ []) ≡ new ++ others)

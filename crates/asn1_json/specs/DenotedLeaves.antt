@@ -12,14 +12,14 @@ use Rattle.x690.specs.Elements.{IsStrictElement}
 use Rattle.x690.specs.Arcs.{AreShortest}
 use Rattle.x690.specs.Characters.{Codes, utf16_octets, ucs4_octets}
 use Rattle.asn1_words.specs.Words.{number_text, integer_text}
-use Rattle.asn1_words.specs.Numbers.{are_shown, arcs, arcs_text}
+use Rattle.asn1_words.specs.Numbers.{are_shown, arcs, dotted_arcs}
 use Rattle.asn1_schema.specs.declared.names.PartName.{PartName}
 use Rattle.asn1_schema.specs.declared.schema.TextKind.{TextKind}
 use Rattle.asn1_schema.specs.declared.schema.TextKind.TheVariants as texts
 use Rattle.asn1_schema.specs.declared.schema.Kind.{Kind}
 use Rattle.asn1_schema.specs.declared.schema.Kind.TheVariants as kinds
 use Rattle.asn1_schema.specs.Values as values
-use Rattle.asn1_schema.specs.Values.{Leaf}
+use Rattle.asn1_schema.specs.Values.{LeafValue}
 use Rattle.asn1_json.specs.Leaves.{octets_of_bits}
 use Rattle.asn1_json.specs.Numerals.{is_numeral}
 
@@ -63,7 +63,7 @@ has_arcs relative s = list_any (nat_eq 46) s || (relative && is_numeral s)
 -- arcs with points between them; or hexadecimal, as of identifiers whose arcs are too large to be shown
 abbrev pub DenotesArcsOr : (has_arcs relative : Bool) → List ℕ → List ℕ → Type 0
 DenotesArcsOr true relative s o =
-    (are_shown relative o ≡ true) × IsOctets o × AreShortest o × (s ≡ arcs_text (arcs relative o))
+    (are_shown relative o ≡ true) × IsOctets o × AreShortest o × (s ≡ dotted_arcs (arcs relative o))
 DenotesArcsOr false relative s o = IsHexadecimal s o
 
 abbrev pub DenotesIdentifier : Bool → List ℕ → List ℕ → Type 0
@@ -81,7 +81,7 @@ abbrev pub DenotesElement : List ℕ → Identifier → List ℕ → Type 0
 DenotesElement s id o = (octets : List ℕ) × IsHexadecimal s octets × IsStrictElement octets id o
 
 -- JSON denotes a value without parts of a kind, where the type has these names.
-abbrev pub DenotesLeaf : List PartName → Kind → Json → Leaf → Type 0
+abbrev pub DenotesLeaf : List PartName → Kind → Json → LeafValue → Type 0
 DenotesLeaf labels kinds.Boolean j l = (b : Bool) × (j ≡ boolean b) × (l ≡ values.boolean b)
 DenotesLeaf labels kinds.Null j l = (j ≡ null) × (l ≡ values.null)
 DenotesLeaf labels kinds.Integer j l = (n : ℤ) × DenotesInteger j n × (l ≡ values.integer n)

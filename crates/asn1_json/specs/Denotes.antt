@@ -8,7 +8,7 @@ use Rattle.json.specs.Find.{get_member}
 use Rattle.asn1_schema.specs.declared.schema.Field.{Field}
 use Rattle.asn1_schema.specs.declared.schema.Kind.{Kind}
 use Rattle.asn1_schema.specs.declared.schema.Kind.TheVariants as kinds
-use Rattle.asn1_schema.specs.Values.{Value, Values, leaf, row, chosen, none, absent, more, Leaf}
+use Rattle.asn1_schema.specs.Values.{Value, Values, leaf, row, chosen, none, absent, more, LeafValue}
 use Rattle.asn1_schema.specs.Grammar.{Body, LeftOut}
 use Rattle.asn1_schema.specs.Rules.{der}
 use Rattle.asn1_json.specs.Tokens.{Types, name_of_arm, name_of_field, type_of_arm, count_of_fields}
@@ -99,7 +99,7 @@ DenotesKind types depth Sub at (Some (kinds.SetOf t)) j v =
     (js : Items) × (vs : Values) × (j ≡ array js) × (v ≡ row vs) × DenoteSet (Sub t) js vs
 DenotesKind types depth Sub at (Some (kinds.Choice arms)) j v = DenotesChosen types Sub at arms.items j v
 DenotesKind types depth Sub at (Some kind) j v =
-    (l : Leaf) × (v ≡ leaf l) × DenotesLeaf (labels_at types.names (Some at)) kind j l
+    (l : LeafValue) × (v ≡ leaf l) × DenotesLeaf (labels_at types.names (Some at)) kind j l
 
 -- so, of the type that all tags and bounds are on
 abbrev pub DenotesResolved : Types → ℕ → (ℕ → Json → Value → Type 0) → Option ℕ → Json → Value → Type 0

@@ -7,9 +7,10 @@ use Rattle.json.specs.Token as json
 use Rattle.x690.specs.Identifiers.{Identifier, bit}
 use Rattle.x690.specs.Strict.{element_octets}
 use Rattle.asn1_words.specs.Words.{number_text, integer_text}
-use Rattle.asn1_words.specs.Numbers.{are_shown, arcs, arcs_text}
+use Rattle.asn1_words.specs.Numbers.{are_shown, arcs, dotted_arcs}
 use Rattle.asn1_schema.specs.declared.names.PartName.{PartName}
-use Rattle.asn1_schema.specs.Values.{Leaf, boolean, null, integer, enumerated, bits, octets, identifier, text, time, any}
+use Rattle.asn1_schema.specs.Values.{LeafValue, boolean, null, integer, enumerated, bits, octets, identifier, text}
+use Rattle.asn1_schema.specs.Values.{time, any}
 use Rattle.asn1_json.specs.Texts.{text_of}
 
 -- the name of the first part with this number; none is empty
@@ -38,8 +39,8 @@ listed_token [] n = json.number (integer_text n)
 listed_token (c ∷ cs) n = json.string (c ∷ cs)
 
 -- arcs with points between them; hexadecimal where they are too large to be shown
-abbrev pub identifier_text : Bool → List ℕ → List ℕ
-identifier_text relative o = if are_shown relative o then arcs_text (arcs relative o) else encode_lower o
+abbrev pub arcs_or_hexadecimal : Bool → List ℕ → List ℕ
+arcs_or_hexadecimal relative o = if are_shown relative o then dotted_arcs (arcs relative o) else encode_lower o
 
 -- an element of definite length in hexadecimal
 abbrev pub element_text : Identifier → List ℕ → List ℕ
@@ -52,14 +53,14 @@ bits_tokens bs =
     json.key (codes "length") ∷ json.number (number_text (length bs)) ∷ json.end_object ∷ []
 
 -- The tokens of a leaf, where the type has these names.
-abbrev pub leaf_tokens : List PartName → Leaf → List json.Token
+abbrev pub leaf_tokens : List PartName → LeafValue → List json.Token
 leaf_tokens labels (boolean b) = json.boolean b ∷ []
 leaf_tokens labels null = json.null ∷ []
 leaf_tokens labels (integer n) = json.number (integer_text n) ∷ []
 leaf_tokens labels (enumerated n) = listed_token (name_of labels n) n ∷ []
 leaf_tokens labels (bits bs) = bits_tokens bs
 leaf_tokens labels (octets o) = json.string (encode_lower o) ∷ []
-leaf_tokens labels (identifier relative o) = json.string (identifier_text relative o) ∷ []
+leaf_tokens labels (identifier relative o) = json.string (arcs_or_hexadecimal relative o) ∷ []
 leaf_tokens labels (text kind o) = json.string (text_of kind o) ∷ []
 leaf_tokens labels (time kind o) = json.string (encode_utf8_all o) ∷ []
 leaf_tokens labels (any id o) = json.string (element_text id o) ∷ []

@@ -14,7 +14,7 @@ use Rattle.asn1_schema.specs.Owned.{Appends, owned_marks}
 use Rattle.asn1_schema.specs.Grammar.{Body, LeftOut, Word}
 use Rattle.asn1_schema.specs.Rules.{der, strict}
 use Rattle.asn1_schema.specs.Tape.{Kept, KeptRow, mark, leaf_mark, tape_of, tapes_of, value_of, values_of}
-use Rattle.asn1_schema.specs.Values.{Leaf, Value, Values, leaf, row, any, none, absent, more}
+use Rattle.asn1_schema.specs.Values.{LeafValue, Value, Values, leaf, row, any, none, absent, more}
 use Rattle.asn1_json.specs.DenotedLeaves.{DenotesLeaf}
 use Rattle.asn1_json.specs.Denotes.{DenoteFields, DenoteItems, DenoteSet, DenotesComponent}
 use Rattle.asn1_json.specs.Tokens.{Types}
@@ -29,7 +29,7 @@ HasWord table depth of v = (word : List ℕ) × Word strict table depth of word 
 
 -- a value without parts that JSON denotes
 abbrev pub DenotesSimple : List PartName → Kind → Json → Value → Type 0
-DenotesSimple labels kind j v = (l : Leaf) × (v ≡ leaf l) × DenotesLeaf labels kind j l
+DenotesSimple labels kind j v = (l : LeafValue) × (v ≡ leaf l) × DenotesLeaf labels kind j l
 
 -- the one element with a strict header that octets are, which an item is; or they are none
 abbrev pub IsElementFound : List ℕ → Option Item → Type 0
@@ -58,12 +58,13 @@ abbrev pub IsOnly : {V : Type 0} → (V → Type 0) → (V → Type 0) → V →
 IsOnly {V} D W v = D v × ((other : V) → D other → W other → other ≡ v)
 
 -- Such a value was put behind the marks of a tape. Where it is refused, nothing that is denoted has a strict encoding.
-abbrev pub Reads : {T : Type 0} → (D W : Value → Type 0) → OwnedTape → OwnedTape → Result T Fault → Type 0
-Reads D W old new result = MatchResult result (λ _. Makes (IsOnly D W) old new) (λ fault. fault ≡ faults.Refused → HaveNone D W)
+abbrev pub ReadsDenoted : {T : Type 0} → (D W : Value → Type 0) → OwnedTape → OwnedTape → Result T Fault → Type 0
+ReadsDenoted D W old new result =
+    MatchResult result (λ _. Makes (IsOnly D W) old new) (λ fault. fault ≡ faults.Refused → HaveNone D W)
 
 -- so of values without parts
 abbrev pub ReadsLeaf : {T : Type 0} → By → ℕ → List PartName → Kind → Json → OwnedTape → OwnedTape → Result T Fault → Type 0
-ReadsLeaf by of labels kind j = Reads (DenotesSimple labels kind j) (HasWord by.types.table.now by.depth of)
+ReadsLeaf by of labels kind j = ReadsDenoted (DenotesSimple labels kind j) (HasWord by.types.table.now by.depth of)
 
 -- a component is left out: it may be, or this is the value of its default
 abbrev pub LeftOutOnce : List Node → ℕ → Field → Values → Type 0
@@ -104,5 +105,5 @@ document_of m = value_view m.item.now
 abbrev pub IsMember : (Json → Value → Type 0) → Member → Type 0
 IsMember Sub m = (kept : Kept) × (owned_marks m.made ≡ tape_of kept) × Sub (document_of m) (value_of kept)
 
-abbrev pub AreMembers : (Json → Value → Type 0) → List Member → Type 0
-AreMembers Sub ms = All (IsMember Sub) ms
+abbrev pub AreJsonMembers : (Json → Value → Type 0) → List Member → Type 0
+AreJsonMembers Sub ms = All (IsMember Sub) ms

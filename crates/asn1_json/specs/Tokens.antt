@@ -14,8 +14,8 @@ pub record Types : Type 0 where
   pub table : List Node
   pub names : List TypeNames
 
-abbrev pub seen : Given → Types
-seen given = record { table = given.table.now; names = given.names.now }
+abbrev pub given_types : Given → Types
+given_types given = record { table = given.table.now; names = given.names.now }
 
 -- the type of a value of an arm
 abbrev pub type_of_arm : Types → Option ℕ → ℕ → Option ℕ

@@ -5,10 +5,11 @@ use Rattle.json.specs.Json.{Json, array, object, string, number, Items, no_items
 use Rattle.json.specs.Json as json
 use Rattle.asn1_words.specs.Words.{number_text, integer_text}
 use Rattle.asn1_schema.specs.declared.names.PartName.{PartName}
-use Rattle.asn1_schema.specs.Values.{Leaf, boolean, null, integer, enumerated, bits, octets, identifier, text, time, any}
+use Rattle.asn1_schema.specs.Values.{LeafValue, boolean, null, integer, enumerated, bits, octets, identifier, text}
+use Rattle.asn1_schema.specs.Values.{time, any}
 use Rattle.asn1_schema.specs.Values.{Value, Values, leaf, row, chosen, none, absent, more}
 use Rattle.asn1_json.specs.Texts.{text_of}
-use Rattle.asn1_json.specs.Leaves.{name_of, octets_of_bits, identifier_text, element_text}
+use Rattle.asn1_json.specs.Leaves.{name_of, octets_of_bits, arcs_or_hexadecimal, element_text}
 use Rattle.asn1_json.specs.Types.{resolved, labels_at}
 use Rattle.asn1_json.specs.Tokens.{Types, name_of_arm, name_of_field, type_of_arm, type_of_field, type_of_members, type_of_unknown, count_of_fields}
 
@@ -18,7 +19,7 @@ listed_tree [] n = number (integer_text n)
 listed_tree (c ∷ cs) n = string (c ∷ cs)
 
 -- the document of a value without parts
-abbrev pub leaf_tree : List PartName → Leaf → Json
+abbrev pub leaf_tree : List PartName → LeafValue → Json
 leaf_tree labels (boolean b) = json.boolean b
 leaf_tree labels null = json.null
 leaf_tree labels (integer n) = number (integer_text n)
@@ -27,7 +28,7 @@ leaf_tree labels (bits bs) =
     object (member (codes "value") (string (encode_lower (octets_of_bits bs)))
     (member (codes "length") (number (number_text (length bs))) no_members))
 leaf_tree labels (octets o) = string (encode_lower o)
-leaf_tree labels (identifier relative o) = string (identifier_text relative o)
+leaf_tree labels (identifier relative o) = string (arcs_or_hexadecimal relative o)
 leaf_tree labels (text kind o) = string (text_of kind o)
 leaf_tree labels (time kind o) = string (encode_utf8_all o)
 leaf_tree labels (any id o) = string (element_text id o)

@@ -53,8 +53,8 @@ Await types (frames.ArmEnd ∷ fs) here shown = (arm : ℕ) × (behind : List Ma
     (here ≡ arm_end_mark arm ∷ behind) × (shown ≡ end_object ∷ others) × Await types fs behind others
 
 -- From marks that frames await, others are left that other frames await; the tokens between are written.
-abbrev pub Goes : Types → List Frame → List Mark → List Frame → List Mark → List Token → List Token → Type 0
-Goes types frames here left behind old new = (shown : List Token) → Await types frames here shown →
+abbrev pub Advances : Types → List Frame → List Mark → List Frame → List Mark → List Token → List Token → Type 0
+Advances types frames here left behind old new = (shown : List Token) → Await types frames here shown →
     (others : List Token) × Await types left behind others × (old ++ shown ≡ new ++ others)
 
 -- no frames await these marks
@@ -69,14 +69,14 @@ weight (frames.Items of are_unknown ∷ fs) = 2
 weight (frames.Fields at place ∷ fs) = 2
 weight (frames.ArmEnd ∷ fs) = 2
 
-abbrev pub steps_left : List Frame → ℕ → ℕ
-steps_left frames items = 2 * items + weight frames
+abbrev pub steps_to_come : List Frame → ℕ → ℕ
+steps_to_come frames items = 2 * items + weight frames
 
 -- Each step makes them fewer.
 pub record Steps (types : Types) (frames : List Frame) (here : List Mark) (left : List Frame) (behind : List Mark)
     (old new : List Token) : Type 0 where
-  pub goes : Goes types frames here left behind old new
-  pub fewer : steps_left left (length behind) < steps_left frames (length here)
+  pub goes : Advances types frames here left behind old new
+  pub fewer : steps_to_come left (length behind) < steps_to_come frames (length here)
 
 -- A row begins: an array where it is known of what type its members are, and else an object.
 abbrev pub OpensRow : Option ℕ → Option ℕ → List Frame → List Frame → List Token → List Token → Type 0

@@ -4,16 +4,16 @@ ghost use Rattle.hex.specs.Hex.{encode_lower};
 ghost use Rattle.json.specs.Token as json;
 ghost use Rattle.x690.specs.Digits.{twos_complement_value};
 ghost use Rattle.x690.specs.Strict.{header_octets};
-ghost use Rattle.asn1_words.specs.Numbers.{are_shown, arcs as spec_arcs, arcs_text as spec_arcs_text};
+ghost use Rattle.asn1_words.specs.Numbers.{are_shown, arcs as spec_arcs, dotted_arcs as spec_arcs_text};
 ghost use Rattle.asn1_words.specs.Words.{integer_text, number_text};
 ghost use Rattle.asn1_schema.specs.Joined.{all_octets, octets_of};
 ghost use Rattle.asn1_schema.specs.Same.{joined_leaf, all_bits_of};
 ghost use Rattle.asn1_schema.specs.Tape.{Kept, Mark, mark, marks, tape_of, value_of};
-ghost use Rattle.asn1_schema.specs.Values.{Leaf, leaf};
+ghost use Rattle.asn1_schema.specs.Values.{LeafValue, leaf};
 ghost use Rattle.asn1_json.specs.Types.{labels_at};
 ghost use Rattle.asn1_json.specs.Texts.{text_of};
 ghost use Rattle.asn1_json.specs.Walk.{begins_pieces};
-ghost use Rattle.asn1_json.specs.Leaves.{bits_tokens, identifier_text, leaf_tokens, listed_token, name_of};
+ghost use Rattle.asn1_json.specs.Leaves.{bits_tokens, arcs_or_hexadecimal, leaf_tokens, listed_token, name_of};
 
 use crate::bits::{joined_bits, octets_of_bits};
 use crate::out::TokenWriter;
@@ -115,7 +115,7 @@ fn put_identifier<W: TokenWriter>(
     content: &[u8],
 ) -> Result<(), AllocError>
     ensures { OnOk result (W.written out.new ≡
-        W.written out.old ++ json.string (identifier_text relative content.now) ∷ []) }
+        W.written out.old ++ json.string (arcs_or_hexadecimal relative content.now) ∷ []) }
 {
     if !have_arcs(relative, content) {
         return put_hexadecimal(alloc, out, content);
@@ -307,7 +307,8 @@ fn has_pieces(value: &[Item<'_>]) -> bool
 
 /// The pieces of a leaf: the one item that it is, or those between its brackets.
 pub fn pieces_of<'t, 'a>(value: &'t [Item<'a>]) -> &'t [Item<'a>]
-    ensures { (kept : Kept) (l : Leaf) → marks value.now ≡ tape_of kept → value_of kept ≡ leaf l →
+    ensures { (kept : Kept) (l : LeafValue) → marks value.now ≡ tape_of kept →
+        value_of kept ≡ leaf l →
         joined_leaf (marks result.now) ≡ l }
 {
     if has_pieces(value) {

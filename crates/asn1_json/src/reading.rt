@@ -6,7 +6,7 @@ ghost use Rattle.asn1_schema.specs.Sound.{is_sound};
 ghost use Rattle.asn1_schema.specs.Tape.{Kept, tape_of, value_of};
 ghost use Rattle.asn1_json.specs.Denotes.{Denotes};
 ghost use Rattle.asn1_json.specs.MadeFrom.{IsMadeFrom, IsWithin};
-ghost use Rattle.asn1_json.specs.Tokens.{seen};
+ghost use Rattle.asn1_json.specs.Tokens.{given_types};
 ghost use Rattle.asn1_json.specs.declared.reading.FromJsonError.TheVariants as errors;
 
 mod arcs;
@@ -147,7 +147,7 @@ fn made_from(
 ) -> Result<OwnedTape, FromJsonError>
     requires sound { is_sound by.types.table.now ≡ true }
     ensures ok { IfOk result (λ made. (kept : Kept) × (owned_marks made ≡ tape_of kept) ×
-        Denotes (seen by.entry.types) by.entry.depth 129 of (value_view value.now)
+        Denotes (given_types by.entry.types) by.entry.depth 129 of (value_view value.now)
         (value_of kept)) }
     ensures refused { IfErr result (IsWithin (length text.now)) }
 {

@@ -1,7 +1,7 @@
 //! Values as JSON.
 ghost use Rattle.std.specs.Prelude.{◌≡◌, ◌++◌, Some, OnOk, IfOk, IsErrOf, IsUtf8};
 ghost use Rattle.asn1_schema.specs.Tape.{Kept, marks, tape_of, value_of};
-ghost use Rattle.asn1_json.specs.Tokens.{seen, tokens_of};
+ghost use Rattle.asn1_json.specs.Tokens.{given_types, tokens_of};
 ghost use Rattle.asn1_json.specs.Shown.{layout, of_schema};
 ghost use Rattle.asn1_json.specs.declared.error.JsonError.TheVariants as errors;
 
@@ -24,7 +24,7 @@ pub fn write_value<W: TokenWriter>(
 ) -> Result<(), JsonError>
     ensures tokens { (kept : Kept) → marks tape.now ≡ tape_of kept →
         OnOk result (W.written out.new ≡
-        W.written out.old ++ tokens_of (seen types.entry) (Some of) (value_of kept)) }
+        W.written out.old ++ tokens_of (given_types types.entry) (Some of) (value_of kept)) }
     ensures none { IsErrOf result errors.NoValue →
         (kept : Kept) → marks tape.now ≡ tape_of kept → ⊥ }
 {

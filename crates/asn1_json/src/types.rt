@@ -6,7 +6,7 @@ ghost use Rattle.asn1_json.specs.DenotedLeaves.{number_named};
 ghost use Rattle.asn1_json.specs.Leaves.{name_of};
 ghost use Rattle.asn1_json.specs.Types.{inner_type, kind_at, innermost, resolved, labels_at, fields_of, arms_of};
 ghost use Rattle.asn1_json.specs.Types.{is_any};
-ghost use Rattle.asn1_json.specs.Tokens.{seen, type_of_arm, type_of_field};
+ghost use Rattle.asn1_json.specs.Tokens.{given_types, type_of_arm, type_of_field};
 ghost use Rattle.asn1_json.specs.Tokens.{count_of_fields, type_of_unknown, type_of_members};
 
 use asn1_schema::names::{PartName, TypeNames};
@@ -138,7 +138,7 @@ impl<'s, 'n> Types<'s, 'n> {
 
     /// The type of the members of a list; none where it is no list.
     pub fn of_members(self, at: Option<usize>) -> Option<usize>
-        ensures { result ≡ type_of_members (seen self.entry) at }
+        ensures { result ≡ type_of_members (given_types self.entry) at }
     {
         match self.kind(at) {
             Some(Kind::SequenceOf(of)) => Some(*of),
@@ -160,7 +160,7 @@ impl<'s, 'n> Types<'s, 'n> {
 
     /// Whether a row has a field at a place.
     pub fn has_field(self, at: Option<usize>, place: usize) -> bool
-        ensures is { result ≡ nat_lt place (count_of_fields (seen self.entry) at) }
+        ensures is { result ≡ nat_lt place (count_of_fields (given_types self.entry) at) }
         ensures few { result ≡ true → place < 2 ^ 63 }
     {
         place < self.fields(at).len()
@@ -168,7 +168,7 @@ impl<'s, 'n> Types<'s, 'n> {
 
     /// The type of a field.
     pub fn of_field(self, at: Option<usize>, place: usize) -> Option<usize>
-        ensures { result ≡ type_of_field (seen self.entry) at place }
+        ensures { result ≡ type_of_field (given_types self.entry) at place }
     {
         match self.fields(at).get(place) {
             Some(field) => Some(field.of),
@@ -178,7 +178,7 @@ impl<'s, 'n> Types<'s, 'n> {
 
     /// The type of the unknown elements behind the fields of a row.
     pub fn of_unknown(self, at: Option<usize>) -> Option<usize>
-        ensures { result ≡ type_of_unknown (seen self.entry) at }
+        ensures { result ≡ type_of_unknown (given_types self.entry) at }
     {
         match self.kind(at) {
             Some(Kind::Sequence(_, unknown)) => *unknown,
@@ -199,7 +199,7 @@ impl<'s, 'n> Types<'s, 'n> {
 
     /// The type of an arm.
     pub fn of_arm(self, at: Option<usize>, arm: usize) -> Option<usize>
-        ensures { result ≡ type_of_arm (seen self.entry) at arm }
+        ensures { result ≡ type_of_arm (given_types self.entry) at arm }
     {
         match self.arms(at).get(arm) {
             Some(of) => Some(*of),

@@ -2,10 +2,11 @@
 ghost use Rattle.std.specs.Prelude.{suc, ◌≡◌, ◌++◌, ◌∷◌, ◌<◌, [], List, reverse, length, nat_lt, OnOk, IfOk, IsErrOf};
 ghost use Rattle.json.specs.Token.{begin_object, key};
 ghost use Rattle.asn1_schema.specs.Tape.{Kept, Mark, marks, tape_of, value_of};
-ghost use Rattle.asn1_schema.specs.Values.{Leaf, Values, leaf};
+ghost use Rattle.asn1_schema.specs.Values.{LeafValue, Values, leaf};
 ghost use Rattle.asn1_json.specs.Leaves.{leaf_tokens};
 ghost use Rattle.asn1_json.specs.Types.{labels_at, or_name};
-ghost use Rattle.asn1_json.specs.Tokens.{Types as SpecTypes, seen, type_of_arm, type_of_members, name_of_arm, name_of_field};
+ghost use Rattle.asn1_json.specs.Tokens.{Types as SpecTypes, given_types, type_of_arm, type_of_members, name_of_arm};
+ghost use Rattle.asn1_json.specs.Tokens.{name_of_field};
 ghost use Rattle.asn1_json.specs.Tokens.{count_of_fields, tokens_of_fields};
 ghost use Rattle.asn1_json.specs.Walk.{Steps, AwaitNot, OpensRow, BeginsField, items_end};
 ghost use Rattle.asn1_json.specs.declared.walk.Frame.{Frame as SpecFrame};
@@ -62,7 +63,7 @@ fn put_arm_name<W: TokenWriter>(
     out: &mut W,
 ) -> Result<(), AllocError>
     ensures { OnOk result (W.written out.new ≡
-        W.written out.old ++ key (name_of_arm (seen types.entry) at arm) ∷ []) }
+        W.written out.old ++ key (name_of_arm (given_types types.entry) at arm) ∷ []) }
 {
     let name = types.name(at, Some(arm as i128));
     if name.is_empty() && types.is_any(types.of_arm(at, arm)) {
@@ -80,7 +81,7 @@ fn put_field_name<W: TokenWriter>(
     out: &mut W,
 ) -> Result<(), AllocError>
     ensures { OnOk result (W.written out.new ≡
-        W.written out.old ++ key (name_of_field (seen types.entry) at place) ∷ []) }
+        W.written out.old ++ key (name_of_field (given_types types.entry) at place) ∷ []) }
 {
     put_key(alloc, out, types.name(at, Some(place as i128)), place)
 }
@@ -92,7 +93,8 @@ fn open_row<W: TokenWriter>(
     frames: &mut Vec<Frame>,
     out: &mut W,
 ) -> Result<(), AllocError>
-    ensures { OnOk result (OpensRow (type_of_members (seen types.entry) at) at frames.old.items
+    ensures { OnOk result (OpensRow (type_of_members (given_types types.entry) at) at
+        frames.old.items
         frames.new.items (W.written out.old) (W.written out.new)) }
 {
     match types.of_members(at) {
@@ -117,9 +119,9 @@ fn open_arm<W: TokenWriter>(
     out: &mut W,
 ) -> Result<(), AllocError>
     ensures frames { OnOk result (frames.new.items ≡ (frames.old.items ++ awaited.ArmEnd ∷ []) ++
-        awaited.Value (type_of_arm (seen types.entry) at arm) ∷ []) }
+        awaited.Value (type_of_arm (given_types types.entry) at arm) ∷ []) }
     ensures tokens { OnOk result (W.written out.new ≡ (W.written out.old ++ begin_object ∷ []) ++
-        key (name_of_arm (seen types.entry) at arm) ∷ []) }
+        key (name_of_arm (given_types types.entry) at arm) ∷ []) }
 {
     frames.push(Frame::ArmEnd)?;
     frames.push(Frame::Value(types.of_arm(at, arm)))?;
@@ -137,10 +139,10 @@ fn put_front_leaf<'t, 'a, W: TokenWriter>(
 ) -> Result<&'t [Item<'a>], JsonError>
     ensures behind { (kept : Kept) (rest : List Mark) → marks items.now ≡ tape_of kept ++ rest →
         IfOk result (λ behind. marks behind.now ≡ rest) }
-    ensures tokens { (kept : Kept) (rest : List Mark) (l : Leaf) →
+    ensures tokens { (kept : Kept) (rest : List Mark) (l : LeafValue) →
         marks items.now ≡ tape_of kept ++ rest → value_of kept ≡ leaf l →
         OnOk result (W.written out.new ≡
-        W.written out.old ++ leaf_tokens (labels_at (seen types.entry).names at) l) }
+        W.written out.old ++ leaf_tokens (labels_at (given_types types.entry).names at) l) }
     ensures shorter { IfOk result (λ behind. length behind.now < length items.now) }
     ensures none { IsErrOf result errors.NoValue → (kept : Kept) (rest : List Mark) →
         marks items.now ≡ tape_of kept ++ rest → ⊥ }
@@ -162,12 +164,12 @@ fn begin_value<'t, 'a, W: TokenWriter>(
     frames: &mut Vec<Frame>,
     out: &mut W,
 ) -> Result<&'t [Item<'a>], JsonError>
-    ensures ok { IfOk result (λ behind. Steps (seen types.entry)
+    ensures ok { IfOk result (λ behind. Steps (given_types types.entry)
         (awaited.Value of ∷ reverse frames.old.items)
         (marks items.now) (reverse frames.new.items) (marks behind.now) (W.written out.old)
         (W.written out.new)) }
     ensures none { IsErrOf result errors.NoValue →
-        AwaitNot (seen types.entry) (awaited.Value of ∷ reverse frames.old.items)
+        AwaitNot (given_types types.entry) (awaited.Value of ∷ reverse frames.old.items)
         (marks items.now) }
 {
     let at = types.resolved(of);
@@ -200,8 +202,8 @@ fn begin_field<W: TokenWriter>(
     frames: &mut Vec<Frame>,
     out: &mut W,
 ) -> Result<(), AllocError>
-    ensures { OnOk result (BeginsField (nat_lt place (count_of_fields (seen types.entry) at))
-        (seen types.entry) at place frames.old.items frames.new.items (W.written out.old)
+    ensures { OnOk result (BeginsField (nat_lt place (count_of_fields (given_types types.entry) at))
+        (given_types types.entry) at place frames.old.items frames.new.items (W.written out.old)
         (W.written out.new)) }
 {
     if types.has_field(at, place) {
@@ -218,8 +220,8 @@ fn begin_field<W: TokenWriter>(
 
 /// The place of the next field. Behind the last one it stays.
 fn next_place(types: Types<'_, '_>, at: Option<usize>, place: usize) -> usize
-    ensures { (vs : Values) → tokens_of_fields (seen types.entry) at result vs ≡
-        tokens_of_fields (seen types.entry) at (suc place) vs }
+    ensures { (vs : Values) → tokens_of_fields (given_types types.entry) at result vs ≡
+        tokens_of_fields (given_types types.entry) at (suc place) vs }
 {
     if types.has_field(at, place) {
         return place + 1;
@@ -237,12 +239,12 @@ fn step_fields<'t, 'a, W: TokenWriter>(
     frames: &mut Vec<Frame>,
     out: &mut W,
 ) -> Result<&'t [Item<'a>], JsonError>
-    ensures ok { IfOk result (λ behind. Steps (seen types.entry)
+    ensures ok { IfOk result (λ behind. Steps (given_types types.entry)
         (awaited.Fields at place ∷ reverse frames.old.items)
         (marks items.now) (reverse frames.new.items) (marks behind.now) (W.written out.old)
         (W.written out.new)) }
     ensures none { IsErrOf result errors.NoValue →
-        AwaitNot (seen types.entry) (awaited.Fields at place ∷ reverse frames.old.items)
+        AwaitNot (given_types types.entry) (awaited.Fields at place ∷ reverse frames.old.items)
         (marks items.now) }
 {
     match front_of(items) {
@@ -340,11 +342,12 @@ fn step_frame<'t, 'a, W: TokenWriter>(
     frames: &mut Vec<Frame>,
     out: &mut W,
 ) -> Result<&'t [Item<'a>], JsonError>
-    ensures ok { IfOk result (λ behind. Steps (seen types.entry) (frame ∷ reverse frames.old.items)
+    ensures ok { IfOk result (λ behind. Steps (given_types types.entry)
+        (frame ∷ reverse frames.old.items)
         (marks items.now) (reverse frames.new.items) (marks behind.now) (W.written out.old)
         (W.written out.new)) }
     ensures none { IsErrOf result errors.NoValue →
-        AwaitNot (seen types.entry) (frame ∷ reverse frames.old.items) (marks items.now) }
+        AwaitNot (given_types types.entry) (frame ∷ reverse frames.old.items) (marks items.now) }
 {
     match frame {
         Frame::Value(of) => begin_value(alloc, types, of, items, frames, out),
@@ -370,11 +373,12 @@ pub fn step<'t, 'a, W: TokenWriter>(
     frames: &mut Vec<Frame>,
     out: &mut W,
 ) -> Result<Left<'t, 'a>, JsonError>
-    ensures ok { IfOk result (λ behind. Steps (seen types.entry) (frame ∷ reverse frames.old.items)
+    ensures ok { IfOk result (λ behind. Steps (given_types types.entry)
+        (frame ∷ reverse frames.old.items)
         (marks left.entry.items.now) (reverse frames.new.items) (marks behind.items.now)
         (W.written out.old) (W.written out.new)) }
     ensures none { IsErrOf result errors.NoValue →
-        AwaitNot (seen types.entry) (frame ∷ reverse frames.old.items)
+        AwaitNot (given_types types.entry) (frame ∷ reverse frames.old.items)
         (marks left.entry.items.now) }
 {
     let items = step_frame(alloc, types, frame, left.items, frames, out)?;

@@ -18,8 +18,8 @@ name_in (row ∷ rows) front last = if bytes_eq front row.0 then named row.1 las
 abbrev pub plain_rows : List (ℕ × Bor (List ℕ)) → List (ℕ × List ℕ)
 plain_rows rows = map (λ row. (row.0, row.1.now)) rows
 
-abbrev pub plain : List (Bor (List ℕ) × Bor (List (ℕ × Bor (List ℕ)))) → List (List ℕ × List (ℕ × List ℕ))
-plain rows = map (λ row. (row.0.now, plain_rows row.1.now)) rows
+abbrev pub plain_table : List (Bor (List ℕ) × Bor (List (ℕ × Bor (List ℕ)))) → List (List ℕ × List (ℕ × List ℕ))
+plain_table rows = map (λ row. (row.0.now, plain_rows row.1.now)) rows
 
 -- the tables of src/tables.rt
 abbrev pub tables : List (List ℕ × List (ℕ × List ℕ))

@@ -2,7 +2,7 @@
 #![tactic(auto)]
 
 ghost use Rattle.std.specs.Prelude.{◌≡◌, ℕ, List, option_map, IfSome, IfNone};
-ghost use Rattle.asn1_names.specs.Names.{IsNameOf, name_in, name_under, named, plain, plain_rows};
+ghost use Rattle.asn1_names.specs.Names.{IsNameOf, name_in, name_under, named, plain_table, plain_rows};
 
 mod tables;
 
@@ -26,7 +26,8 @@ fn name_below(
     front: &[u8],
     last: u8,
 ) -> Option<&'static str>
-    ensures { option_map (λ name. name.now) result ≡ name_in (plain tables.now) front.now last }
+    ensures { option_map (λ name. name.now) result ≡ name_in (plain_table tables.now) front.now
+        last }
 {
     for (arc, table) in tables {
         if front == *arc {

@@ -10,7 +10,7 @@ use Rattle.x690.specs.Joined.{IsConcatenation}
 use Rattle.x690.specs.Laws.Joined.{joined_same}
 use Rattle.x690.specs.Octets.{IsOctets}
 use Rattle.asn1_headers.specs.Answers.{IsOther, TellsMemory}
-use Rattle.asn1_headers.specs.Error.{FlattenedTo, HeldIn}
+use Rattle.asn1_headers.specs.Error.{FlattenedTo, ErrorIs}
 use Rattle.asn1_headers.specs.Walk.{EndsItem, TakesItem}
 use Rattle.asn1_headers.specs.declared.error.Err.{Err as Refusal}
 use Rattle.asn1_headers.specs.declared.error.Err.TheVariants.{Incomplete as truncated, Error as refused, Failure as failed}
@@ -19,7 +19,7 @@ use Rattle.asn1_headers.specs.declared.error.Error.TheVariants as errors
 use Rattle.asn1_rs.specs.declared.asn1_types.sequence.iterator.SequenceIterator.{SequenceIterator}
 use Rattle.asn1_rs.specs.Checks.{CheckGives}
 use Rattle.asn1_rs.specs.Kinds.{IsExactCheck}
-use Rattle.asn1_rs.specs.Lists.{HasNoConcatenation, ItemsGive, ListTakes, MadeOf, ShapedList}
+use Rattle.asn1_rs.specs.Lists.{HasNoConcatenation, ItemsGive, ListConverts, IsListMadeOf, ShapedList}
 use Rattle.asn1_rs.specs.ToDer.{HasNone}
 use Rattle.asn1_rs.specs.Laws.Lists.{taken_joined, taken_none}
 use Rattle.asn1_rs.specs.Laws.Sequence.Iterator.{octets_kept, octets_walked}
@@ -51,12 +51,12 @@ module _ {T V E : Type 0} (reads : List ℕ → Result (List ℕ × T) (Refusal 
   -- of the lists that are made of such items
   module _ {W : Type 0} {check : CheckGives} {Shape : Parts → Type 0} (checks : IsExactCheck check Shape)
       (holds : List T → W → Type 0) (p : Parts) (o : IsOctets p.content) where
-    pub element_taken : (w : W) → ListTakes check holds reads from p (Ok w) →
-        MadeOf (ShapedList Shape G) value holds p w
+    pub element_taken : (w : W) → ListConverts check holds reads from p (Ok w) →
+        IsListMadeOf (ShapedList Shape G) value holds p w
     element_taken w (is, (items, held, y)) =
         (items, held, record { shape = checks.exact p (Ok tt) is; items = all_joined p.content items o y })
 
-    pub element_not_taken : (e : E) → ListTakes {W = W} check holds reads from p (Err e) →
+    pub element_not_taken : (e : E) → ListConverts {W = W} check holds reads from p (Err e) →
         from errors.OutOfMemory e ⊎ HasNone (ShapedList Shape G p)
     element_not_taken e (inl r) = inr (λ vs b. checks.exact p (Err r.0) r.1 b.shape)
     element_not_taken e (inr (is, y)) =
@@ -64,13 +64,13 @@ module _ {T V E : Type 0} (reads : List ℕ → Result (List ℕ × T) (Refusal 
 
 module _ {T E : Type 0} (reads : List ℕ → Result (List ℕ × T) (Refusal E) → Type 0) (from : Error → E → Type 0)
     (asks_no_memory : (octets : List ℕ) (answer : Result (List ℕ × T) (Refusal E)) → reads octets answer →
-    IfErr answer (HeldIn (IsOther from))) where
+    IfErr answer (ErrorIs (IsOther from))) where
   end_no_memory : (octets : List ℕ) (answer : Result (List ℕ × T) (Refusal E)) (e : E) → reads octets answer →
       EndsItem from octets answer e → IsOther from e
   end_no_memory octets (Ok x) e g w = inl (errors.InvalidLength, (λ h. cc), w.1)
   end_no_memory octets (Err r) e g w = told r (asks_no_memory octets (Err r) g) w
     where
-      told : (r : Refusal E) → HeldIn (IsOther from) r → FlattenedTo (λ x y. y ≡ x) from r e → IsOther from e
+      told : (r : Refusal E) → ErrorIs (IsOther from) r → FlattenedTo (λ x y. y ≡ x) from r e → IsOther from e
       told (truncated n) h f = inl (errors.Incomplete n, (λ h. cc), f)
       told (refused x) h f = subst (IsOther from) (sym f) h
       told (failed x) h f = subst (IsOther from) (sym f) h

@@ -1,3 +1,4 @@
+mod DerForm
 mod IdTexts
 mod JoinedItems
 mod OneItemMore

@@ -8,7 +8,7 @@ use Rattle.asn1_headers.specs.declared.error.SerializeError.{SerializeError}
 use Rattle.asn1_headers.specs.Prepended.{GrewByAnEnd}
 use Rattle.asn1_rs.proofs.Prepending.{vector_first, vector_second}
 use Rattle.asn1_rs.specs.Fields.{TakenFields, counted, prepended, takes, LeavesAnEnd, PutsField}
-use Rattle.asn1_rs.specs.Fields.{FieldList, no_fields, field, TellsFields, fields_octets, FieldsRefuse}
+use Rattle.asn1_rs.specs.Fields.{FieldList, no_fields, field, SpecifiesFields, fields_octets, FieldsRefuse}
 use Rattle.asn1_rs.specs.Fields.{FieldsRefuseCount}
 use Rattle.asn1_rs.specs.Laws.Structs.Writing.{puts_struct}
 use Rattle.asn1_rs.specs.Structs.{puts_of, PutsAll, fields_by}
@@ -131,7 +131,7 @@ module _ {T : Type 0} (w : Writing T) (x : T) (t : w.tells x) (rest : List ℕ) 
 
 -- all fields
 put_back : {S : Type 0} (fields : FieldList S) (x : S) (old : List ℕ) (new : TakenFields)
-    (answer : Result (Unit {0}) SerializeError) → TellsFields fields x →
+    (answer : Result (Unit {0}) SerializeError) → SpecifiesFields fields x →
     PutsAll (puts_of fields x) (prepended old) new answer →
     PutBack (fields_octets fields x) (FieldsRefuseCount fields x) (FieldsRefuse fields x) old new answer
 put_back no_fields x old new answer t p = none_put old new answer p.0 p.1
@@ -142,7 +142,7 @@ put_back (field w of rest) x old new answer t p =
 
 -- those of a struct
 pub row_put_back : {S T : Type 0} (row : T → S) (list : FieldList S) (m : T) (old : List ℕ) (before new : TakenFields)
-    (answer : Result (Unit {0}) SerializeError) → before ≡ prepended old → TellsFields (fields_by row list) m →
+    (answer : Result (Unit {0}) SerializeError) → before ≡ prepended old → SpecifiesFields (fields_by row list) m →
     PutsAll (puts_of list (row m)) before new answer → PutBack (fields_octets (fields_by row list) m)
     (FieldsRefuseCount (fields_by row list) m) (FieldsRefuse (fields_by row list) m) old new answer
 row_put_back row list m old before new answer is t p =

@@ -10,7 +10,7 @@ use Rattle.asn1_headers.specs.Laws.Writing.{MayRefuse_more}
 use Rattle.asn1_rs.proofs.Lists.{MayRefuseCount_more}
 use Rattle.asn1_rs.proofs.Prepending.{vector_twice}
 use Rattle.asn1_rs.specs.Fields.{TakenFields, counted, prepended, goes_back, takes, FieldRefusal, PutsField}
-use Rattle.asn1_rs.specs.Fields.{FieldList, no_fields, field, TellsFields, fields_octets, FieldsRefuse}
+use Rattle.asn1_rs.specs.Fields.{FieldList, no_fields, field, SpecifiesFields, fields_octets, FieldsRefuse}
 use Rattle.asn1_rs.specs.Fields.{FieldsRefuseCount}
 use Rattle.asn1_rs.specs.Laws.Structs.Writing.{puts_struct}
 use Rattle.asn1_rs.specs.Structs.{puts_of, PutsAll, fields_by}
@@ -116,21 +116,21 @@ module _ {S T : Type 0} (w : Writing T) (of : S → T) (rest : FieldList S) (x :
   step_uncounted e o f others (mid, Err g, put, then) = done_or_not g then
 
 module _ {S : Type 0} where
-  pub puts_taken : (fields : FieldList S) (x : S) (old new : TakenFields) → goes_back old ≡ false → TellsFields fields x →
+  pub puts_taken : (fields : FieldList S) (x : S) (old new : TakenFields) → goes_back old ≡ false → SpecifiesFields fields x →
       PutsAll (puts_of fields x) old new (Ok tt) → new ≡ takes (fields_octets fields x) old
   puts_taken no_fields x old new f t p = p.1 ∙ takes_none old
   puts_taken (field w of rest) x old new f t p =
       step_taken w of rest x old new t.0 f (λ mid g q. puts_taken rest x mid new g t.1 q) (p.0 f)
 
   pub puts_refused : (fields : FieldList S) (x : S) (old new : TakenFields) (e : SerializeError) → goes_back old ≡ false →
-      TellsFields fields x → PutsAll (puts_of fields x) old new (Err e) →
+      SpecifiesFields fields x → PutsAll (puts_of fields x) old new (Err e) →
       FieldRefusal old (length (fields_octets fields x)) (FieldsRefuseCount fields x) (FieldsRefuse fields x) e
   puts_refused no_fields x old new e f t p = absurd (done_or_not e (sym p.0))
   puts_refused (field w of rest) x old new e f t p =
       step_refused w of rest x old new t.0 e f (λ mid g q. puts_refused rest x mid new e g t.1 q) (p.0 f)
 
   pub puts_uncounted : (fields : FieldList S) (x : S) (old new : TakenFields) (e : Error) → goes_back old ≡ false →
-      TellsFields fields x → FieldsRefuseCount fields x e → PutsAll (puts_of fields x) old new (Ok tt) → ⊥
+      SpecifiesFields fields x → FieldsRefuseCount fields x e → PutsAll (puts_of fields x) old new (Ok tt) → ⊥
   puts_uncounted no_fields x old new e f t o p = o
   puts_uncounted (field w of rest) x old new e f t o p =
       step_uncounted w of rest x old new t.0 e o f (λ mid g r q. puts_uncounted rest x mid new e g t.1 r q) (p.0 f)

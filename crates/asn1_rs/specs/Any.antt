@@ -1,4 +1,6 @@
 -- Elements in hand, and what reading one may answer.
+pub mod Decoded
+pub mod Kept
 pub mod Text
 pub mod Value
 pub mod Writing
@@ -20,7 +22,7 @@ use Rattle.asn1_headers.specs.Error.{Converted}
 use Rattle.asn1_headers.specs.Class.{class_number}
 use Rattle.asn1_headers.specs.Elements.{element_parts, BeginsWithHeaderAndContents}
 use Rattle.asn1_headers.specs.Header.Reading.{Refused, der_refusal, ber_refusal}
-use Rattle.asn1_headers.specs.Answers.{Front, Speaks}
+use Rattle.asn1_headers.specs.Answers.{HasPrefix, Speaks}
 use Rattle.x690.specs.Nested.{IsElement, ElementFault}
 use Rattle.asn1_headers.specs.Ber.{max_depth}
 
@@ -69,7 +71,7 @@ HandsOn {T} {E} class tag from reads p rest (Err r) =
 -- this holds of the contents octets of the element that begins the input, where the element is such
 abbrev pub TakesContent : (List ℕ → Parts → Type 0) → (Parts → Type 0) → (List ℕ → Type 0) → List ℕ → Type 0
 TakesContent ElementOf IsSuch Takes input =
-    (p : Parts) (rest : List ℕ) → Front ElementOf input p rest → IsSuch p → Takes p.content
+    (p : Parts) (rest : List ℕ) → HasPrefix ElementOf input p rest → IsSuch p → Takes p.content
 
 -- its tag number and its class are these
 abbrev pub HasClassAndTag : Class → Tag → Parts → Type 0
@@ -86,10 +88,10 @@ abbrev pub AndThenGives : {T E : Type 0} → (List ℕ → Parts → Type 0) →
     (Fault → Refusal Error) → Class → Tag → (Error → E → Type 0) →
     (List ℕ → Result (Bor (List ℕ) × T) (Refusal E) → Type 0) → List ℕ → Result (List ℕ × T) (Refusal E) → Type 0
 AndThenGives ElementOf FaultOf refusal class tag from reads input (Ok x) =
-    (p : Parts) × (rest : List ℕ) × Front ElementOf input p rest × HandsOn class tag from reads p rest (Ok x)
+    (p : Parts) × (rest : List ℕ) × HasPrefix ElementOf input p rest × HandsOn class tag from reads p rest (Ok x)
 AndThenGives ElementOf FaultOf refusal class tag from reads input (Err r) =
     ((fault : Fault) × FaultOf input fault × Converted from (refusal fault) r) ⊎
-    ((p : Parts) × (rest : List ℕ) × Front ElementOf input p rest × HandsOn class tag from reads p rest (Err r))
+    ((p : Parts) × (rest : List ℕ) × HasPrefix ElementOf input p rest × HandsOn class tag from reads p rest (Err r))
 
 -- the answers of the readers of elements by DER and by BER
 abbrev pub DerElementGives : List ℕ → Result (List ℕ × Any) (Refusal Error) → Type 0

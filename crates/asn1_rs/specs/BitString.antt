@@ -25,8 +25,8 @@ abbrev pub bit_of : List ℕ → ℕ → ℕ
 bit_of octets i = bit_at (get_or octets (i / 8) 0) (7 - i % 8)
 
 -- what some contents octets say: the first one is the count of unused bits, and the others have the bits (8.6.2.2)
-abbrev pub bits_of : List ℕ → Bits
-bits_of content = record { unused = get_or content 0 0; octets = drop 1 content }
+abbrev pub bits_of_content : List ℕ → Bits
+bits_of_content content = record { unused = get_or content 0 0; octets = drop 1 content }
 
 -- where there is no bit, none is unused (8.6.2.3)
 abbrev pub IsEmptyOrCounts : Bits → Type 0
@@ -51,16 +51,16 @@ pub record AreStrictBits (v : Bits) : Type 0 where
 abbrev pub bit_string_constraints : CheckGives
 bit_string_constraints = is_primitive
     before has_content
-    before content_check (λ c. IsEmptyOrCounts (bits_of c)) InvalidLength
-    before content_check (λ c. IsZeroPadded (bits_of c)) (DerConstraintFailed UnusedBitsNotZero)
+    before content_check (λ c. IsEmptyOrCounts (bits_of_content c)) InvalidLength
+    before content_check (λ c. IsZeroPadded (bits_of_content c)) (DerConstraintFailed UnusedBitsNotZero)
 
 -- the octets of a bit string that have its bits
 abbrev pub data_of : BitString → List ℕ
 data_of x = cow_slice_items x.content
 
 -- the bits of a bit string, and how many of them are unused
-abbrev pub bits_in : BitString → Bits
-bits_in x = record { unused = x.unused_bits; octets = data_of x }
+abbrev pub bits_of_string : BitString → Bits
+bits_of_string x = record { unused = x.unused_bits; octets = data_of x }
 
 -- An element with the tag number, primitive or constructed. Its first contents octet is the count of unused bits, also
 -- one above 7, and the others have the bits.
@@ -68,7 +68,7 @@ abbrev pub bit_string_leaf : Leaf BitString
 bit_string_leaf = record {
   number = bit_string_number;
   Value = Bits;
-  value = bits_in;
+  value = bits_of_string;
   IsValue = λ v. (v.unused < 256) × IsOctets v.octets;
   IsDer = AreStrictBits;
   checks = has_content;

@@ -21,8 +21,8 @@ truth_octet true = 255
 truth_octet false = 0
 
 -- a strict octet, and one that is none
-abbrev pub IsStrictTruth : ℕ → Type 0
-IsStrictTruth octet = (octet ≡ 0) ⊎ (octet ≡ 255)
+abbrev pub IsStrictTruthOctet : ℕ → Type 0
+IsStrictTruthOctet octet = (octet ≡ 0) ⊎ (octet ≡ 255)
 
 -- an octet that BER takes as true and DER refuses
 abbrev pub IsOtherTruth : ℕ → Type 0
@@ -30,7 +30,7 @@ IsOtherTruth octet = (octet ≢ 0) × (octet ≢ 255)
 
 -- What the constraints ask: some contents octets, whose first is 00 or ff.
 abbrev pub truth_constraints : CheckGives
-truth_constraints = has_content before check (λ p. IsStrictTruth (get_or p.content 0 0))
+truth_constraints = has_content before check (λ p. IsStrictTruthOctet (get_or p.content 0 0))
     (λ p. IsOtherTruth (get_or p.content 0 0)) (λ p. DerConstraintFailed InvalidBoolean)
 
 -- one octet, which is the value
@@ -40,7 +40,7 @@ boolean_leaf = record {
   Value = ℕ;
   value = λ x. x.value;
   IsValue = λ octet. octet < 256;
-  IsDer = IsStrictTruth;
+  IsDer = IsStrictTruthOctet;
   checks = has_length 1;
   Says = λ content octet. content ≡ octet ∷ [];
   constraints = truth_constraints;

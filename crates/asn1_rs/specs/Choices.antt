@@ -1,6 +1,7 @@
 -- Choices of types that are told apart by the class and the tag number of their elements (X.680 29).
 pub mod Data
 pub mod Heap
+pub mod InHand
 pub mod Nested
 pub mod Taken
 pub mod TaggedStructs
@@ -32,13 +33,13 @@ use Rattle.asn1_rs.specs.ToDer.{Writing, IntoVector, RefusesCount, VectorRefuses
 -- Tags.
 
 -- the identifier is of this class and this tag number
-abbrev pub has_tag : ℕ → ℕ → Identifier → Bool
-has_tag class number i = nat_eq i.class class && nat_eq i.number number
+abbrev pub is_of_tag : ℕ → ℕ → Identifier → Bool
+is_of_tag class number i = nat_eq i.class class && nat_eq i.number number
 
 -- it is of one of these
 abbrev pub has_a_tag : List (ℕ × ℕ) → Identifier → Bool
 has_a_tag [] i = false
-has_a_tag (tag ∷ tags) i = has_tag tag.0 tag.1 i || has_a_tag tags i
+has_a_tag (tag ∷ tags) i = is_of_tag tag.0 tag.1 i || has_a_tag tags i
 
 -- its class is that of one of these
 abbrev pub has_a_class : List (ℕ × ℕ) → ℕ → Bool
@@ -46,9 +47,9 @@ has_a_class [] class = false
 has_a_class (tag ∷ tags) class = nat_eq class tag.0 || has_a_class tags class
 
 -- the class and the tag number are one of these
-abbrev pub is_among : ℕ → ℕ → List (ℕ × ℕ) → Bool
-is_among class number [] = false
-is_among class number (tag ∷ tags) = (nat_eq class tag.0 && nat_eq number tag.1) || is_among class number tags
+abbrev pub is_tag_among : ℕ → ℕ → List (ℕ × ℕ) → Bool
+is_tag_among class number [] = false
+is_tag_among class number (tag ∷ tags) = (nat_eq class tag.0 && nat_eq number tag.1) || is_tag_among class number tags
 
 -- the tag numbers of these
 abbrev pub numbers_of_tags : List (ℕ × ℕ) → List ℕ
@@ -114,9 +115,9 @@ or_arms class number G H = record {
   value = or_value G.value H.value;
   IsValue = InArm G.IsValue H.IsValue;
   IsDer = InArm G.IsDer H.IsDer;
-  Der = λ i o. ByTag (has_tag class number i) (G.Der o) (H.Der i o);
-  Body = λ p. ByTag (has_tag class number p.id) (G.Body p) (H.Body p);
-  Check = λ p. CheckByTag (has_tag class number p.id) (G.Check p) (H.Check p);
+  Der = λ i o. ByTag (is_of_tag class number i) (G.Der o) (H.Der i o);
+  Body = λ p. ByTag (is_of_tag class number p.id) (G.Body p) (H.Body p);
+  Check = λ p. CheckByTag (is_of_tag class number p.id) (G.Check p) (H.Check p);
   Form = λ v i c. InArm (λ x. G.Form x i c) (λ y. H.Form y i c) v;
   tags = (class, number) ∷ H.tags;
   allocates = G.allocates || H.allocates;
@@ -162,7 +163,7 @@ OrGives told first others (Err e) = ((told ≡ true) × first (Err e)) ⊎ ((tol
 -- and what their check may
 abbrev pub OrChecks : ℕ → ℕ → CheckGives → CheckGives → CheckGives
 OrChecks class number first others p answer =
-    CheckByTag (has_tag class number p.id) (first p answer) (others p answer)
+    CheckByTag (is_of_tag class number p.id) (first p answer) (others p answer)
 
 -- an element that is of no arm, at the end of them
 abbrev pub IsNoArm : {T E : Type 0} → (Error → E) → ℕ → Result T E → Type 0

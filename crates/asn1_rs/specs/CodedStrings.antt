@@ -6,7 +6,7 @@ use Rattle.asn1_rs.specs.declared.asn1_types.strings.Coded.{Coded}
 use Rattle.asn1_rs.specs.declared.asn1_types.strings.RestrictedString.{RestrictedString}
 use Rattle.asn1_rs.specs.Checks.{content_check, is_primitive}
 use Rattle.asn1_rs.specs.Leaf.{Leaf}
-use Rattle.asn1_rs.specs.Strings.{text_of}
+use Rattle.asn1_rs.specs.Strings.{string_text}
 
 -- the octets are some text's in the code
 abbrev pub IsCoded : (List ℕ → List ℕ) → List ℕ → Type 0
@@ -29,8 +29,8 @@ coded_leaf number code text = record {
 
 -- such strings, by the tag number and the octets of a character
 abbrev pub coded_string_leaf : {K : Type 0} → ℕ → (ℕ → List ℕ) → Leaf (RestrictedString K Coded)
-coded_string_leaf number octets_of = coded_leaf number (code_of octets_of) text_of
+coded_string_leaf number octets_of = coded_leaf number (code_of octets_of) string_text
 
 -- the contents octets of a string
 abbrev pub coded_octets : {K F : Type 0} → (ℕ → List ℕ) → RestrictedString K F → List ℕ
-coded_octets octets_of x = code_of octets_of (chars (text_of x))
+coded_octets octets_of x = code_of octets_of (chars (string_text x))

@@ -5,7 +5,7 @@ use Rattle.x690.specs.Octets.{IsOctets}
 use Rattle.x690.specs.Elements.{Parts}
 use Rattle.x690.specs.Faults.{Fault}
 use Rattle.x690.specs.Nested.{IsElement, ElementFault}
-use Rattle.asn1_headers.specs.Answers.{Front}
+use Rattle.asn1_headers.specs.Answers.{HasPrefix}
 use Rattle.asn1_headers.specs.Ber.{max_depth}
 use Rattle.asn1_headers.specs.Error.{FlattenedTo, IsInvalidValue}
 use Rattle.asn1_headers.specs.Header.Reading.{ber_refusal}
@@ -18,7 +18,7 @@ use Rattle.asn1_rs.specs.Checks.{CheckGives, ◌before◌, has_number, is_constr
 use Rattle.asn1_rs.specs.Integer.Octets.{integer_octets, BorrowsOctets}
 use Rattle.asn1_rs.specs.Kinds.{ElementGrammar}
 use Rattle.asn1_rs.specs.Oid.{OidValue, absolute, oid_cow, oid_value}
-use Rattle.asn1_rs.specs.Strings.{text_of}
+use Rattle.asn1_rs.specs.Strings.{string_text}
 use Rattle.asn1_rs.specs.Tagged.{has_class}
 use Rattle.std.specs.Cow.{IsBorrowedSlice}
 
@@ -53,7 +53,7 @@ identification_of parts.Fixed = fixed
 
 -- the text of a descriptor, where there is one
 abbrev pub descriptor_text : {K F : Type 0} → Option (RestrictedString K F) → Option (List ℕ)
-descriptor_text (Some x) = Some (text_of x)
+descriptor_text (Some x) = Some (string_text x)
 descriptor_text None = None
 
 -- the value of what is in hand
@@ -65,17 +65,17 @@ pdv_value x = record {
 }
 
 -- what an item may hold: octets, and a text
-abbrev pub AreParts : Identification → Type 0
-AreParts (syntaxes a t) = IsOctets a.octets × IsOctets t.octets
-AreParts (syntax s) = IsOctets s.octets
-AreParts (context c) = IsOctets c
-AreParts (negotiation c s) = IsOctets c × IsOctets s.octets
-AreParts (transfer s) = IsOctets s.octets
-AreParts fixed = Unit {0}
+abbrev pub IsIdentification : Identification → Type 0
+IsIdentification (syntaxes a t) = IsOctets a.octets × IsOctets t.octets
+IsIdentification (syntax s) = IsOctets s.octets
+IsIdentification (context c) = IsOctets c
+IsIdentification (negotiation c s) = IsOctets c × IsOctets s.octets
+IsIdentification (transfer s) = IsOctets s.octets
+IsIdentification fixed = Unit {0}
 
 -- the parts of a data value are such as an element can say
 pub record IsPdv (v : PdvValue) : Type 0 where
-  pub identification : AreParts v.identification
+  pub identification : IsIdentification v.identification
   pub descriptor : IfSome v.descriptor IsUtf8
   pub octets : IsOctets v.octets
 
@@ -92,12 +92,12 @@ BorrowsParts parts.Fixed = Unit {0}
 
 -- an element by BER begins the octets, and the rest follows
 abbrev pub BeginsWithParts : List ℕ → Parts → List ℕ → Type 0
-BeginsWithParts = Front (IsElement max_depth)
+BeginsWithParts = HasPrefix (IsElement max_depth)
 
 -- None does: the refusal of the first fault. Octets that are missing are told as an error,
 -- since no more can follow contents octets.
-abbrev pub NoElement : List ℕ → Error → Type 0
-NoElement octets e = (fault : Fault) × ElementFault max_depth octets fault ×
+abbrev pub NoFirstElement : List ℕ → Error → Type 0
+NoFirstElement octets e = (fault : Fault) × ElementFault max_depth octets fault ×
     FlattenedTo (λ x y. y ≡ x) (λ x y. y ≡ x) (ber_refusal fault) e
 
 -- two elements in turn begin the octets
@@ -110,7 +110,8 @@ pub record BeginsWithTwo (octets : List ℕ) (one other : Parts) : Type 0 where
 -- they do not: the refusal of the first that is none
 abbrev pub NotTwo : List ℕ → Error → Type 0
 NotTwo octets e =
-    NoElement octets e ⊎ ((one : Parts) × (between : List ℕ) × BeginsWithParts octets one between × NoElement between e)
+    NoFirstElement octets e ⊎ ((one : Parts) × (between : List ℕ) × BeginsWithParts octets one between ×
+    NoFirstElement between e)
 
 -- The identification that an element says, by its tag number alone: its class is not looked at, nor is it whether it is
 -- primitive. What follows two elements in turn is not looked at.
@@ -131,19 +132,19 @@ SaysNone p e =
     ((5 < p.id.number) × IsInvalidValue (record { 0 = p.id.number }) (codes "not an identification") e)
 
 -- the class context-specific, then the number
-abbrev pub has_tag : ℕ → CheckGives
-has_tag number = has_class 2 before has_number number
+abbrev pub has_context_tag : ℕ → CheckGives
+has_context_tag number = has_class 2 before has_number number
 
 -- An element whose contents octets begin with another one, and that has the number 0 in its class.
 pub record HasInner (outer inner : Parts) : Type 0 where
   pub rest : List ℕ
   pub within : BeginsWithParts outer.content inner rest
-  pub tag : has_tag 0 outer (Ok tt)
+  pub tag : has_context_tag 0 outer (Ok tt)
 
 -- its contents octets begin with none; or its class, and then its number, is another
 abbrev pub HasNoInner : Parts → Error → Type 0
-HasNoInner outer e = NoElement outer.content e ⊎
-    ((inner : Parts) × (rest : List ℕ) × BeginsWithParts outer.content inner rest × has_tag 0 outer (Err e))
+HasNoInner outer e = NoFirstElement outer.content e ⊎
+    ((inner : Parts) × (rest : List ℕ) × BeginsWithParts outer.content inner rest × has_context_tag 0 outer (Err e))
 
 -- the first element is such
 pub record HoldsElement (content : List ℕ) (inner : Parts) (behind : List ℕ) : Type 0 where
@@ -153,7 +154,7 @@ pub record HoldsElement (content : List ℕ) (inner : Parts) (behind : List ℕ)
 
 -- there is none, or it is no such
 abbrev pub HoldsNone : List ℕ → Error → Type 0
-HoldsNone content e = NoElement content e ⊎
+HoldsNone content e = NoFirstElement content e ⊎
     ((outer : Parts) × (behind : List ℕ) × BeginsWithParts content outer behind × HasNoInner outer e)
 
 -- what the first element holds says the identification
@@ -172,13 +173,14 @@ pub record IsData (octets value : List ℕ) : Type 0 where
   pub parts : Parts
   pub rest : List ℕ
   pub element : BeginsWithParts octets parts rest
-  pub tag : has_tag 2 parts (Ok tt)
+  pub tag : has_context_tag 2 parts (Ok tt)
   pub is : value ≡ parts.content
 
 -- there is none, or its class or its number is another
 abbrev pub NoData : List ℕ → Error → Type 0
 NoData octets e =
-    NoElement octets e ⊎ ((p : Parts) × (rest : List ℕ) × BeginsWithParts octets p rest × has_tag 2 p (Err e))
+    NoFirstElement octets e ⊎ ((p : Parts) × (rest : List ℕ) × BeginsWithParts octets p rest ×
+    has_context_tag 2 p (Err e))
 
 -- The contents octets begin with an identification, and then a data value. What follows is not looked at.
 pub record HasPdvParts (content : List ℕ) (i : Identification) (value : List ℕ) : Type 0 where

@@ -8,7 +8,7 @@ use Rattle.asn1_headers.specs.declared.error.Err.{Err as Refusal}
 use Rattle.asn1_headers.specs.declared.error.Err.TheVariants.{Incomplete as truncated}
 use Rattle.asn1_headers.specs.declared.error.Needed.{Needed}
 use Rattle.asn1_headers.specs.declared.error.Needed.TheVariants.{Size}
-use Rattle.asn1_headers.specs.Answers.{Front}
+use Rattle.asn1_headers.specs.Answers.{HasPrefix}
 use Rattle.asn1_headers.specs.Error.{Converted}
 use Rattle.asn1_headers.specs.Header.Reading.{HeaderGives, refusal_of}
 
@@ -33,4 +33,4 @@ abbrev pub TruncationsAreCountedOrWithin : {S T E : Type 0} → (List ℕ → Fa
     (List ℕ → Result (List ℕ × S) (Refusal E) → Type 0) → (List ℕ → Result (List ℕ × T) (Refusal E) → Type 0) → Type 0
 TruncationsAreCountedOrWithin FaultOf ElementOf within reads = (octets : List ℕ) (needed : Needed) →
     reads octets (Err (truncated needed)) → LacksOctets FaultOf octets needed ⊎
-    ((p : Parts) × (rest : List ℕ) × Front ElementOf octets p rest × within p.content (Err (truncated needed)))
+    ((p : Parts) × (rest : List ℕ) × HasPrefix ElementOf octets p rest × within p.content (Err (truncated needed)))

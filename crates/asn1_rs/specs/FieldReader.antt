@@ -2,7 +2,7 @@
 use Rattle.std.specs.Prelude.{◌≡◌, ◌≢◌, ◌⊎◌, List, ℕ, true, false, Some, Result, Ok, Err}
 use Rattle.x690.specs.Elements.{Parts, IsDerElement}
 use Rattle.x690.specs.Faults.{Fault}
-use Rattle.asn1_headers.specs.Answers.{Front}
+use Rattle.asn1_headers.specs.Answers.{HasPrefix}
 use Rattle.asn1_headers.specs.Class.{class_number}
 use Rattle.asn1_headers.specs.Header.Reading.{Refused}
 use Rattle.asn1_headers.specs.declared.class.Class.{Class}
@@ -34,7 +34,7 @@ IsNoSequence p e =
 -- a sequence by this grammar, with these contents octets, begins the octets, and the rest follows
 pub record BeginsWithSequence (ElementOf : List ℕ → Parts → Type 0) (octets content rest : List ℕ) : Type 0 where
   pub parts : Parts
-  pub front : Front ElementOf octets parts rest
+  pub front : HasPrefix ElementOf octets parts rest
   pub sequence : IsSequence parts
   pub content_is : parts.content ≡ content
 
@@ -42,7 +42,7 @@ pub record BeginsWithSequence (ElementOf : List ℕ → Parts → Type 0) (octet
 abbrev pub RefusesSequence : (List ℕ → Parts → Type 0) → (List ℕ → Fault → Type 0) → (Fault → Refusal Error) → List ℕ →
     Refusal Error → Type 0
 RefusesSequence ElementOf FaultOf refusal octets r = Refused FaultOf refusal octets r ⊎ ((p : Parts) × (rest : List ℕ) ×
-    (e : Error) × Front ElementOf octets p rest × IsNoSequence p e × (r ≡ refused e))
+    (e : Error) × HasPrefix ElementOf octets p rest × IsNoSequence p e × (r ≡ refused e))
 
 -- What reading the fields of a sequence may answer: its contents octets and the rest, or the refusal.
 abbrev pub FieldsGive : (List ℕ → Parts → Type 0) → (List ℕ → Fault → Type 0) → (Fault → Refusal Error) → List ℕ →
@@ -60,9 +60,9 @@ TakesSequence octets (Ok x) = (content : List ℕ) × BeginsWithSequence IsDerEl
 TakesSequence octets (Err r) = Unit {0}
 
 -- This answer of a reader is handed out, and left this; or its refusal became this error, and nothing was taken.
-abbrev pub Took : {T : Type 0} → Result (List ℕ × T) (Refusal Error) → List ℕ → List ℕ → Result T Error → Type 0
-Took answer octets left (Ok x) = answer ≡ Ok (left, x)
-Took answer octets left (Err e) = (left ≡ octets) × ((r : Refusal Error) × (answer ≡ Err r) × BecomesError r e)
+abbrev pub HandsOut : {T : Type 0} → Result (List ℕ × T) (Refusal Error) → List ℕ → List ℕ → Result T Error → Type 0
+HandsOut answer octets left (Ok x) = answer ≡ Ok (left, x)
+HandsOut answer octets left (Err e) = (left ≡ octets) × ((r : Refusal Error) × (answer ≡ Err r) × BecomesError r e)
 
 -- A reader answered this field and left this, or its refusal became this error, and nothing was taken.
 abbrev pub TakesField : {T : Type 0} → (List ℕ → Result (List ℕ × T) (Refusal Error) → Type 0) → List ℕ → List ℕ →

@@ -21,9 +21,9 @@ taken_in x = elim x.taken as (λ _. TakenFields)
     [ taken.Counted n ↦ counted n | taken.Prepended a b ↦ prepended b ]
 
 -- the octets that stand there
-abbrev pub standing : TakenFields → List ℕ
-standing (counted n) = []
-standing (prepended o) = o
+abbrev pub collected : TakenFields → List ℕ
+collected (counted n) = []
+collected (prepended o) = o
 
 -- the fields are taken from the last to the first
 abbrev pub goes_back : TakenFields → Bool
@@ -68,9 +68,9 @@ pub data FieldList (S : Type 0) : Type 1 where
   field : {T : Type 0} → Writing T → (S → T) → FieldList S → FieldList S
 
 -- what is written is told of each field
-abbrev pub TellsFields : {S : Type 0} → FieldList S → S → Type 0
-TellsFields no_fields x = Unit {0}
-TellsFields (field w of rest) x = w.tells (of x) × TellsFields rest x
+abbrev pub SpecifiesFields : {S : Type 0} → FieldList S → S → Type 0
+SpecifiesFields no_fields x = Unit {0}
+SpecifiesFields (field w of rest) x = w.tells (of x) × SpecifiesFields rest x
 
 -- the encodings of the fields, one after another
 abbrev pub fields_octets : {S : Type 0} → FieldList S → S → List ℕ
@@ -90,7 +90,7 @@ FieldsRefuse (field w of rest) x e = Either (whole_refuses w (of x)) (FieldsRefu
 -- first.
 abbrev pub fields_writing : {S : Type 0} → ℕ → FieldList S → Writing S
 fields_writing number fields = record {
-  tells = TellsFields fields;
+  tells = SpecifiesFields fields;
   header = λ x. header_octets 0 true number (length (fields_octets fields x));
   content = fields_octets fields;
   constructed = λ _. true;

@@ -17,7 +17,7 @@ use Rattle.asn1_headers.specs.declared.error.Error.{Error}
 use Rattle.asn1_headers.specs.declared.error.SerializeError.{SerializeError}
 use Rattle.asn1_headers.specs.declared.error.Err.{Err as Refusal}
 use Rattle.asn1_headers.specs.declared.error.Err.TheVariants.{Error as refused}
-use Rattle.asn1_headers.specs.Answers.{Front}
+use Rattle.asn1_headers.specs.Answers.{HasPrefix}
 use Rattle.asn1_rs.specs.Checks.{nothing, is_constructed}
 use Rattle.asn1_headers.specs.Error.{Converted, tells_of_io, vector_refusal}
 use Rattle.asn1_rs.specs.Any.{TakesContent}
@@ -84,10 +84,10 @@ abbrev pub ListThenGives : {T E : Type 0} → (List ℕ → Parts → Type 0) �
     (Fault → Refusal Error) → ℕ → (Error → E → Type 0) → (List ℕ → Result (Bor (List ℕ) × T) (Refusal E) → Type 0) →
     List ℕ → Result (List ℕ × T) (Refusal E) → Type 0
 ListThenGives ElementOf FaultOf refusal number from reads input (Ok x) =
-    (p : Parts) × (rest : List ℕ) × Front ElementOf input p rest × HandsListOn number from reads p rest (Ok x)
+    (p : Parts) × (rest : List ℕ) × HasPrefix ElementOf input p rest × HandsListOn number from reads p rest (Ok x)
 ListThenGives ElementOf FaultOf refusal number from reads input (Err r) =
     ((fault : Fault) × FaultOf input fault × Converted from (refusal fault) r) ⊎
-    ((p : Parts) × (rest : List ℕ) × Front ElementOf input p rest × HandsListOn number from reads p rest (Err r))
+    ((p : Parts) × (rest : List ℕ) × HasPrefix ElementOf input p rest × HandsListOn number from reads p rest (Err r))
 
 -- copies of the items in contents octets: of all of them, in order; or the refusal of an item, or out of memory
 abbrev pub CopiesGive : {T W E : Type 0} → (T → W → Type 0) → (List ℕ → Result (List ℕ × T) (Refusal E) → Type 0) →

@@ -66,8 +66,8 @@ pub record IsExactConversion {S : Type 0} (gives : Any → Result S Error → Ty
   pub asks_no_memory : G.allocates ≡ false → (any : Any) → gives any (Err OutOfMemory) → ⊥
 
 -- what holds one item, and nothing else, has the values and the elements of that item
-abbrev pub holding : {S T : Type 0} → (T → S) → ElementGrammar S → ElementGrammar T
-holding held G = record {
+abbrev pub by_inner_element : {S T : Type 0} → (T → S) → ElementGrammar S → ElementGrammar T
+by_inner_element held G = record {
   Value = G.Value;
   value = λ x. G.value (held x);
   IsValue = G.IsValue;
@@ -79,12 +79,12 @@ holding held G = record {
 }
 
 -- a conversion that answers what holds the item that another one answers
-abbrev pub HoldingGives : {S T E : Type 0} → (T → S) → (Any → Result S E → Type 0) → Any → Result T E → Type 0
-HoldingGives held gives any (Ok x) = gives any (Ok (held x))
-HoldingGives held gives any (Err e) = gives any (Err e)
+abbrev pub InnerGives : {S T E : Type 0} → (T → S) → (Any → Result S E → Type 0) → Any → Result T E → Type 0
+InnerGives held gives any (Ok x) = gives any (Ok (held x))
+InnerGives held gives any (Err e) = gives any (Err e)
 
 -- a reader that answers it
-abbrev pub HoldingReads : {S T E : Type 0} → (T → S) → (List ℕ → Result (List ℕ × S) (Refusal E) → Type 0) → List ℕ →
+abbrev pub InnerReads : {S T E : Type 0} → (T → S) → (List ℕ → Result (List ℕ × S) (Refusal E) → Type 0) → List ℕ →
     Result (List ℕ × T) (Refusal E) → Type 0
-HoldingReads held reads input (Ok x) = reads input (Ok (x.0, held x.1))
-HoldingReads held reads input (Err r) = reads input (Err r)
+InnerReads held reads input (Ok x) = reads input (Ok (x.0, held x.1))
+InnerReads held reads input (Err r) = reads input (Err r)

@@ -6,8 +6,9 @@ use Rattle.asn1_headers.specs.declared.error.Error.{Error}
 use Rattle.asn1_rs.specs.declared.asn1_types.any.Any.{Any}
 use Rattle.asn1_rs.specs.Checks.{CheckGives}
 use Rattle.asn1_rs.specs.Traits.{OfParts}
-use Rattle.asn1_rs.specs.Leaf.{Leaf, LeafGives, LeafTakes, LendsContent, copying, leaf_element}
-use Rattle.asn1_rs.specs.Kinds.{ElementGrammar, IsLawfulElement, IsExactCheck, IsExactConversion, HoldingGives, holding}
+use Rattle.asn1_rs.specs.Leaf.{Leaf, LeafGives, LeafConverts, LendsContent, copying, leaf_element}
+use Rattle.asn1_rs.specs.Kinds.{ElementGrammar, IsLawfulElement, IsExactCheck, IsExactConversion, InnerGives}
+use Rattle.asn1_rs.specs.Kinds.{by_inner_element}
 
 -- its elements, and what the conversion and the check may answer
 pub record LeafReading (S : Type 0) : Type 1 where
@@ -41,14 +42,14 @@ lent_reading L content = record {
 abbrev pub copying_reading : {S : Type 0} → Leaf S → LeafReading S
 copying_reading L = record {
   element = copying (leaf_element L);
-  gives = OfParts (LeafTakes L);
+  gives = OfParts (LeafConverts L);
   check = L.constraints;
 }
 
 -- and a type that holds an item of a leaf, and nothing else
-abbrev pub holding_reading : {S T : Type 0} → (T → S) → LeafReading S → LeafReading T
-holding_reading held R = record {
-  element = holding held R.element;
-  gives = HoldingGives held R.gives;
+abbrev pub inner_reading : {S T : Type 0} → (T → S) → LeafReading S → LeafReading T
+inner_reading held R = record {
+  element = by_inner_element held R.element;
+  gives = InnerGives held R.gives;
   check = R.check;
 }

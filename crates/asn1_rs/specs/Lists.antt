@@ -100,15 +100,16 @@ ListGives holds reads from content (Err e) = ItemsGive reads from content (Err e
 
 -- What making a list of an element may answer: the list of its items; or the refusal of the check, or of the items.
 -- The check is `IsListOr`, or `has_number` where the constructed bit is not looked at.
-abbrev pub ListTakes : {T W E : Type 0} → CheckGives → (List T → W → Type 0) →
+abbrev pub ListConverts : {T W E : Type 0} → CheckGives → (List T → W → Type 0) →
     (List ℕ → Result (List ℕ × T) (Refusal E) → Type 0) → (Error → E → Type 0) → Parts → Result W E → Type 0
-ListTakes check holds reads from p (Ok w) = check p (Ok tt) × ListGives holds reads from p.content (Ok w)
-ListTakes check holds reads from p (Err e) = ((refusal : Error) × check p (Err refusal) × from refusal e) ⊎
+ListConverts check holds reads from p (Ok w) = check p (Ok tt) × ListGives holds reads from p.content (Ok w)
+ListConverts check holds reads from p (Err e) = ((refusal : Error) × check p (Err refusal) × from refusal e) ⊎
     (check p (Ok tt) × ListGives holds reads from p.content (Err e))
 
 -- a list that was made of items whose values stand in the element's contents octets
-abbrev pub MadeOf : {T V W : Type 0} → (Parts → List V → Type 0) → (T → V) → (List T → W → Type 0) → Parts → W → Type 0
-MadeOf {T} Body value holds p w = (items : List T) × holds items w × Body p (map value items)
+abbrev pub IsListMadeOf : {T V W : Type 0} → (Parts → List V → Type 0) → (T → V) → (List T → W → Type 0) → Parts → W →
+    Type 0
+IsListMadeOf {T} Body value holds p w = (items : List T) × holds items w × Body p (map value items)
 
 -- a vector has these items
 abbrev pub has_items : {T A : Type 0} → List T → Vec T A → Type 0

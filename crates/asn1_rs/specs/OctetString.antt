@@ -36,12 +36,12 @@ abbrev pub cow_of : OctetString → CowSlice ℕ Global
 cow_of x = x.octets
 
 -- the octets of an octet string
-abbrev pub octets_of : OctetString → List ℕ
-octets_of x = cow_slice_items x.octets
+abbrev pub string_octets : OctetString → List ℕ
+string_octets x = cow_slice_items x.octets
 
 -- Octet strings that are owned or borrowed.
 abbrev pub octet_string_leaf : Leaf OctetString
-octet_string_leaf = octets_leaf octet_string_number octets_of
+octet_string_leaf = octets_leaf octet_string_number string_octets
 
 -- the same of borrowed octets
 abbrev pub slice_leaf : Leaf (Bor (List ℕ))

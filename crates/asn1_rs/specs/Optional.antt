@@ -51,9 +51,9 @@ OptionGives {T} {E} LeftOut reads octets answer =
 
 -- Of a strict encoding before any rest a reader of optional values answers what is held, in Some, and the rest. It may
 -- answer out of memory, as the reader of the value may.
-abbrev pub ReadsHeldBack : {T V E : Type 0} → (List ℕ → Result (List ℕ × Option T) (Refusal E) → Type 0) →
+abbrev pub ReadsSomeBack : {T V E : Type 0} → (List ℕ → Result (List ℕ × Option T) (Refusal E) → Type 0) →
     (V → Identifier → List ℕ → Type 0) → (T → V) → (Refusal E → Type 0) → Type 0
-ReadsHeldBack {T} {V} {E} reads Form value memory =
+ReadsSomeBack {T} {V} {E} reads Form value memory =
     (octets : List ℕ) (answer : Result (List ℕ × Option T) (Refusal E)) (v : V) (word rest : List ℕ) → IsOctets octets →
     reads octets answer →
     ∥ IsStrict Form v word ∥₁ → octets ≡ word ++ rest → ReadsBack (option_map value) memory (Some v) rest answer
@@ -73,10 +73,10 @@ ReadsNoneAtEnd {T} {E} reads =
 
 -- A refusal of an optional value is that of the value, and it is final. No word of the value begins the octets, nor
 -- more octets of which the refusal speaks.
-abbrev pub RefusesAsHeld : {T V E : Type 0} → (List ℕ → Result (List ℕ × Option T) (Refusal E) → Type 0) →
+abbrev pub RefusesAsSome : {T V E : Type 0} → (List ℕ → Result (List ℕ × Option T) (Refusal E) → Type 0) →
     (List ℕ → Result (List ℕ × T) (Refusal E) → Type 0) → (List ℕ → Type 0) → (List ℕ → V → Type 0) →
     (Refusal E → Type 0) → Type 0
-RefusesAsHeld {T} {V} {E} reads held IsTruncated G memory =
+RefusesAsSome {T} {V} {E} reads held IsTruncated G memory =
     (octets : List ℕ) (r : Refusal E) → IsOctets octets → reads octets (Err r) →
     held octets (Err r) × (memory r ⊎ IsFinal (IsTruncated octets) r G octets)
 
@@ -110,31 +110,31 @@ NoneOrConverted {T} {E} converts of_tag any answer =
     (bare : Any) × IsWithoutRawTag any bare × ((its : Result T E) × converts bare its × (answer ≡ none_or of_tag its))
 
 -- what the value that is held says, or else this
-abbrev pub held_or : {T A : Type 0} → A → (T → A) → Option T → A
-held_or other says None = other
-held_or other says (Some x) = says x
+abbrev pub some_or : {T A : Type 0} → A → (T → A) → Option T → A
+some_or other says None = other
+some_or other says (Some x) = says x
 
 -- the fact holds of the value that is held, where one is
-abbrev pub IfHeld : {T : Type 0} → (T → Type 0) → Option T → Type 0
-IfHeld Holds None = Unit {0}
-IfHeld Holds (Some x) = Holds x
+abbrev pub InSome : {T : Type 0} → (T → Type 0) → Option T → Type 0
+InSome Holds None = Unit {0}
+InSome Holds (Some x) = Holds x
 
 -- a refusal of the value that is held
-abbrev pub HeldRefuses : {T E : Type 0} → (T → E → Type 0) → Option T → E → Type 0
-HeldRefuses refuses None e = ⊥
-HeldRefuses refuses (Some x) e = refuses x e
+abbrev pub OptionRefuses : {T E : Type 0} → (T → E → Type 0) → Option T → E → Type 0
+OptionRefuses refuses None e = ⊥
+OptionRefuses refuses (Some x) e = refuses x e
 
 -- An optional value is written as what it holds; none has no octets.
 abbrev pub option_writing : {T : Type 0} → Writing T → Writing (Option T)
 option_writing w = record {
-  tells = IfHeld w.tells;
-  header = held_or [] w.header;
-  content = held_or [] w.content;
-  constructed = held_or false w.constructed;
-  count_refuses = HeldRefuses w.count_refuses;
-  header_refuses = HeldRefuses w.header_refuses;
-  content_refuses = HeldRefuses w.content_refuses;
-  refuses_first = HeldRefuses w.refuses_first;
+  tells = InSome w.tells;
+  header = some_or [] w.header;
+  content = some_or [] w.content;
+  constructed = some_or false w.constructed;
+  count_refuses = OptionRefuses w.count_refuses;
+  header_refuses = OptionRefuses w.header_refuses;
+  content_refuses = OptionRefuses w.content_refuses;
+  refuses_first = OptionRefuses w.refuses_first;
   count_allocates = w.count_allocates;
   content_allocates = w.content_allocates;
   write_allocates = w.write_allocates;

@@ -6,13 +6,15 @@ pub use Rattle.x690.specs.Octets.{IsOctets}
 pub use Rattle.asn1_headers.specs.Answers.{seen, Exactly, TellsMemory}
 pub use Rattle.asn1_headers.specs.Ber.{EndsWithin}
 pub use Rattle.asn1_headers.specs.Class.{class_number}
-pub use Rattle.asn1_headers.specs.Error.{HeldIn, IsInvalidValue}
+pub use Rattle.asn1_headers.specs.Error.{ErrorIs, IsInvalidValue}
 pub use Rattle.asn1_headers.specs.Prepended.{Prepended}
 pub use Rattle.asn1_headers.specs.Writer.{MayRefuse, IsMemoryOrLength, Wrote}
 pub use Rattle.asn1_headers.specs.declared.error.Error.{Error}
 pub use Rattle.asn1_headers.specs.declared.error.Error.TheVariants.{OutOfMemory}
 pub use Rattle.asn1_headers.specs.declared.error.SerializeError.{SerializeError}
-pub use Rattle.asn1_rs.specs.Any.{parts_of}
+pub use Rattle.asn1_rs.specs.Any.{BeginsWithAny, parts_of}
+pub use Rattle.asn1_rs.specs.Any.Decoded.{IsFront, IsReadAgain, IsWordInHand}
+pub use Rattle.asn1_rs.specs.Any.Kept.{as_element, kept_value}
 pub use Rattle.asn1_rs.specs.Callers.{ReadsByDer, ReadsByBer, WritesStrict}
 pub use Rattle.asn1_rs.specs.Choices.{ChoiceGives, ChoiceReads, has_a_class, has_a_tag}
 pub use Rattle.asn1_rs.specs.Choices.Data.{ChecksOf, choice_numbers, choice_of, choice_type, numbers_of_choice}

@@ -30,22 +30,22 @@ text_leaf number IsText text = record {
 }
 
 -- the text of a string, as it is held
-abbrev pub held_text : {K F : Type 0} → RestrictedString K F → CowStr Global
-held_text x = x.text
+abbrev pub content_text : {K F : Type 0} → RestrictedString K F → CowStr Global
+content_text x = x.text
 
 -- the text of a string, in UTF-8
-abbrev pub text_of : {K F : Type 0} → RestrictedString K F → List ℕ
-text_of x = cow_str_bytes x.text
+abbrev pub string_text : {K F : Type 0} → RestrictedString K F → List ℕ
+string_text x = cow_str_bytes x.text
 
 -- Strings of a type with this tag number and these texts.
 abbrev pub string_leaf : {K : Type 0} → ℕ → (List ℕ → Type 0) → Leaf (RestrictedString K InPlace)
-string_leaf number IsText = text_leaf number IsText text_of
+string_leaf number IsText = text_leaf number IsText string_text
 
 -- What the conversion of an element may answer. It is its contents octets as a text, which is borrowed, or the refusal
 -- of the first check that is broken.
 abbrev pub StringGives : {K : Type 0} → ℕ → (List ℕ → Type 0) → Any → Result (RestrictedString K InPlace) Error → Type 0
 StringGives number IsText any answer =
-    LeafGives (string_leaf number IsText) (parts_of any) answer × IfOk answer (λ x. IsBorrowedStr (held_text x))
+    LeafGives (string_leaf number IsText) (parts_of any) answer × IfOk answer (λ x. IsBorrowedStr (content_text x))
 
 -- how such strings are read
 abbrev pub string_reading : {K : Type 0} → ℕ → (List ℕ → Type 0) → LeafReading (RestrictedString K InPlace)

@@ -17,7 +17,7 @@ use Rattle.x690.specs.Identifiers.{Identifier, IsTruncatedIdentifier}
 use Rattle.x690.specs.Lengths.{LengthForm}
 use Rattle.x690.specs.Rules.{Rule, der_rule, ber_rule}
 use Rattle.x690.specs.Elements.{Parts, IsHeader}
-use Rattle.asn1_headers.specs.Answers.{Front, TellsMemory}
+use Rattle.asn1_headers.specs.Answers.{HasPrefix, TellsMemory}
 use Rattle.asn1_headers.specs.Ber.{EndsWithin}
 use Rattle.asn1_headers.specs.declared.error.Err.{Err as Refusal}
 use Rattle.asn1_headers.specs.declared.error.Error.{Error}
@@ -32,7 +32,7 @@ use Rattle.asn1_rs.specs.Grammar.{DerWord, NoCheck}
 use Rattle.asn1_rs.specs.Grammar.Form.{IsStrict, UniversalForm}
 use Rattle.asn1_rs.specs.Grammar.Item.{ItemGrammar, ber_words}
 use Rattle.asn1_rs.specs.Lists.{IsConstructed, IsListOr}
-use Rattle.asn1_rs.specs.Optional.{IsAtEnd, IsLeftOut, IfHeld}
+use Rattle.asn1_rs.specs.Optional.{IsAtEnd, IsLeftOut, InSome}
 use Rattle.asn1_rs.specs.ToDer.{Writing}
 
 -- The rules by which a field is read.
@@ -74,11 +74,11 @@ abbrev pub have_none_in_common : List ℕ → List ℕ → Bool
 have_none_in_common [] others = true
 have_none_in_common (number ∷ numbers) others = not (is_one_of number others) && have_none_in_common numbers others
 
-abbrev pub are_apart : Numbers → Numbers → Bool
-are_apart any_number (among []) = true
-are_apart any_number behind = false
-are_apart (among numbers) any_number = false
-are_apart (among numbers) (among others) = have_none_in_common numbers others
+abbrev pub numbers_disjoint : Numbers → Numbers → Bool
+numbers_disjoint any_number (among []) = true
+numbers_disjoint any_number behind = false
+numbers_disjoint (among numbers) any_number = false
+numbers_disjoint (among numbers) (among others) = have_none_in_common numbers others
 
 -- those of both
 abbrev pub or_those : Numbers → Numbers → Numbers
@@ -139,7 +139,7 @@ item_field numbers G = record {
   value = G.value;
   IsValue = G.IsValue;
   IsDer = G.IsDer;
-  Takes = λ rules. Front (words_by rules G);
+  Takes = λ rules. HasPrefix (words_by rules G);
   Strict = IsStrict G.Form;
   numbers = numbers;
   optional = false;
@@ -149,7 +149,7 @@ item_field numbers G = record {
 -- An optional field: it is left out exactly where the octets say so; else a word of its type begins them.
 abbrev pub OptionTakes : {V : Type 0} → (List ℕ → Type 0) → (List ℕ → V → Type 0) → List ℕ → Option V → List ℕ → Type 0
 OptionTakes LeftOut Words octets None rest = LeftOut octets × (rest ≡ octets)
-OptionTakes LeftOut Words octets (Some v) rest = (LeftOut octets → ⊥) × Front Words octets v rest
+OptionTakes LeftOut Words octets (Some v) rest = (LeftOut octets → ⊥) × HasPrefix Words octets v rest
 
 -- its strict octets: none, or the strict encoding
 abbrev pub OptionStrict : {V : Type 0} → (V → Identifier → List ℕ → Type 0) → Option V → List ℕ → Type 0
@@ -162,8 +162,8 @@ abbrev pub optional_field : {S : Type 0} → Numbers → (EncodingRules → List
 optional_field numbers LeftOut G = record {
   Value = Option G.Value;
   value = option_map G.value;
-  IsValue = IfHeld G.IsValue;
-  IsDer = IfHeld G.IsDer;
+  IsValue = InSome G.IsValue;
+  IsDer = InSome G.IsDer;
   Takes = λ rules. OptionTakes (LeftOut rules) (words_by rules G);
   Strict = OptionStrict G.Form;
   numbers = numbers;
@@ -227,10 +227,10 @@ numbers_of false numbers behind = numbers
 numbers_of true numbers behind = or_those numbers behind
 
 -- a field is told by its tag number, if it is optional, and so are those behind it
-abbrev pub is_told : Bool → Numbers → Numbers → Bool → Bool
-is_told optional numbers behind false = false
-is_told false numbers behind true = true
-is_told true numbers behind true = are_apart numbers behind
+abbrev pub is_unambiguous : Bool → Numbers → Numbers → Bool → Bool
+is_unambiguous optional numbers behind false = false
+is_unambiguous false numbers behind true = true
+is_unambiguous true numbers behind true = numbers_disjoint numbers behind
 
 -- a field, and the others behind it
 abbrev pub row_of : {S R : Type 0} → FieldGrammar S → RowGrammar R → RowGrammar (S × R)
@@ -243,7 +243,7 @@ row_of F G = record {
   Strict = λ v octets. (first : List ℕ) × (others : List ℕ) × F.Strict v.0 first × G.Strict v.1 others ×
       (octets ≡ first ++ others);
   numbers = numbers_of F.optional F.numbers G.numbers;
-  told = is_told F.optional F.numbers G.numbers G.told;
+  told = is_unambiguous F.optional F.numbers G.numbers G.told;
   allocates = F.allocates || G.allocates;
 }
 

@@ -98,8 +98,8 @@ HoldsOfNumber ElementOf tag Holds input =
     (any : Any) (rest : List ℕ) → BeginsWithAny ElementOf input any rest → tag_of any.header ≡ tag → Holds any
 
 -- the number of a tag, as a `u32` holds it: a parameter of this type is it
-abbrev pub number_of : ℕ → ℕ
-number_of number = number % 2 ^ 32
+abbrev pub as_u32 : ℕ → ℕ
+as_u32 number = number % 2 ^ 32
 
 -- the class that a refusal expects, where the number is one of a class
 abbrev pub IsClassOf : ℕ → Option Class → Type 0

@@ -102,8 +102,8 @@ plain_writing header content constructed = record {
 }
 
 -- what holds one item, and nothing else, is written as that
-abbrev pub held_writing : {S T : Type 0} → (T → S) → Writing S → Writing T
-held_writing held w = record {
+abbrev pub inner_writing : {S T : Type 0} → (T → S) → Writing S → Writing T
+inner_writing held w = record {
   tells = λ x. w.tells (held x);
   header = λ x. w.header (held x);
   content = λ x. w.content (held x);

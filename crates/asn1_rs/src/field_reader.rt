@@ -12,7 +12,7 @@ ghost use Rattle.asn1_headers.specs.declared.error.Error.TheVariants as errors;
 ghost use Rattle.asn1_headers.specs.declared.error.Error.{Error};
 ghost use Rattle.asn1_rs.specs.Any.{parts_of};
 ghost use Rattle.asn1_rs.specs.FieldReader.{FieldsGive, IsSequence, IsNoSequence};
-ghost use Rattle.asn1_rs.specs.FieldReader.{TakesField, TakesFields, Took, fields_left};
+ghost use Rattle.asn1_rs.specs.FieldReader.{TakesField, TakesFields, HandsOut, fields_left};
 
 use crate::asn1_types::any::Any;
 use crate::ber::element_by_ber;
@@ -93,7 +93,8 @@ impl<'a> FieldReader<'a> {
 
     /// What is answered, with the fields behind it left. After a refusal nothing is taken.
     fn take<T>(&mut self, answer: ParseResult<'a, T, Error>) -> Result<T, Error>
-        ensures { Took (seen answer.entry) (fields_left self.old) (fields_left self.new) result }
+        ensures { HandsOut (seen answer.entry) (fields_left self.old) (fields_left self.new)
+            result }
     {
         let (left, field) = answer?;
         self.left = left;

@@ -73,6 +73,7 @@ pub use asn1_headers::message::Message;
 
 // elements and their headers
 pub use crate::asn1_types::any::Any;
+pub use crate::asn1_types::any::kept::KeptAny;
 pub use crate::asn1_types::end_of_content::EndOfContent;
 pub use asn1_headers::ber::Steps;
 pub use asn1_headers::class::Class;

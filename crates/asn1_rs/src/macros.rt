@@ -27,6 +27,33 @@ macro_rules! read_fields {
     };
 }
 
+/// A row of references to these fields: nested pairs, with `()` at the end.
+#[macro_export]
+macro_rules! lent_row {
+    ($x:expr =>) => {
+        ()
+    };
+    ($x:expr => $first:ident $(, $rest:ident)*) => {
+        (&$x.$first, $crate::lent_row!($x => $($rest),*))
+    };
+}
+
+/// The body of `to_static`: the copy of a struct, field by field.
+///
+///     copy_fields!(self, alloc => Measurement { place, value, error })
+#[macro_export]
+macro_rules! copy_fields {
+    ($x:expr, $alloc:expr => $made:ident { $($field:ident),+ $(,)? }) => {
+        match $crate::ToStatic::to_static(&$crate::lent_row!($x => $($field),+), $alloc) {
+            Ok(row) => {
+                let $crate::row!($($field),+) = row;
+                Ok($made { $($field),+ })
+            }
+            Err(e) => Err(e),
+        }
+    };
+}
+
 /// The body of `put_row`.
 ///
 ///     put_fields!(self, fields => place, value, error)
@@ -358,6 +385,117 @@ macro_rules! fields_in_der {
         $j:ident, $k:ident, $l:ident, $m:ident, $n:ident, $o:ident, $p:ident $(,)?
     ) => {
         $crate::author::in_der16(
+            &$x.$a, &$x.$b, &$x.$c, &$x.$d, &$x.$e, &$x.$f, &$x.$g, &$x.$h, &$x.$i, &$x.$j, &$x.$k,
+            &$x.$l, &$x.$m, &$x.$n, &$x.$o, &$x.$p
+        )
+    };
+}
+
+/// The body of `der_form_by_kind`.
+///
+///     are_der_fields!(self => place, value, error)
+#[macro_export]
+macro_rules! are_der_fields {
+    ($x:expr => $a:ident $(,)?) => {
+        $crate::author::are_der_fields1(&$x.$a)
+    };
+    ($x:expr => $a:ident, $b:ident $(,)?) => {
+        $crate::author::are_der_fields2(&$x.$a, &$x.$b)
+    };
+    ($x:expr => $a:ident, $b:ident, $c:ident $(,)?) => {
+        $crate::author::are_der_fields3(&$x.$a, &$x.$b, &$x.$c)
+    };
+    ($x:expr => $a:ident, $b:ident, $c:ident, $d:ident $(,)?) => {
+        $crate::author::are_der_fields4(&$x.$a, &$x.$b, &$x.$c, &$x.$d)
+    };
+    ($x:expr => $a:ident, $b:ident, $c:ident, $d:ident, $e:ident $(,)?) => {
+        $crate::author::are_der_fields5(&$x.$a, &$x.$b, &$x.$c, &$x.$d, &$x.$e)
+    };
+    ($x:expr => $a:ident, $b:ident, $c:ident, $d:ident, $e:ident, $f:ident $(,)?) => {
+        $crate::author::are_der_fields6(&$x.$a, &$x.$b, &$x.$c, &$x.$d, &$x.$e, &$x.$f)
+    };
+    ($x:expr => $a:ident, $b:ident, $c:ident, $d:ident, $e:ident, $f:ident, $g:ident $(,)?) => {
+        $crate::author::are_der_fields7(&$x.$a, &$x.$b, &$x.$c, &$x.$d, &$x.$e, &$x.$f, &$x.$g)
+    };
+    (
+        $x:expr =>
+        $a:ident, $b:ident, $c:ident, $d:ident, $e:ident, $f:ident, $g:ident, $h:ident $(,)?
+    ) => {
+        $crate::author::are_der_fields8(&$x.$a, &$x.$b, &$x.$c, &$x.$d, &$x.$e, &$x.$f, &$x.$g, &$x.$h)
+    };
+    (
+        $x:expr =>
+        $a:ident, $b:ident, $c:ident, $d:ident, $e:ident, $f:ident, $g:ident, $h:ident,
+        $i:ident $(,)?
+    ) => {
+        $crate::author::are_der_fields9(
+            &$x.$a, &$x.$b, &$x.$c, &$x.$d, &$x.$e, &$x.$f, &$x.$g, &$x.$h, &$x.$i
+        )
+    };
+    (
+        $x:expr =>
+        $a:ident, $b:ident, $c:ident, $d:ident, $e:ident, $f:ident, $g:ident, $h:ident, $i:ident,
+        $j:ident $(,)?
+    ) => {
+        $crate::author::are_der_fields10(
+            &$x.$a, &$x.$b, &$x.$c, &$x.$d, &$x.$e, &$x.$f, &$x.$g, &$x.$h, &$x.$i, &$x.$j
+        )
+    };
+    (
+        $x:expr =>
+        $a:ident, $b:ident, $c:ident, $d:ident, $e:ident, $f:ident, $g:ident, $h:ident, $i:ident,
+        $j:ident, $k:ident $(,)?
+    ) => {
+        $crate::author::are_der_fields11(
+            &$x.$a, &$x.$b, &$x.$c, &$x.$d, &$x.$e, &$x.$f, &$x.$g, &$x.$h, &$x.$i, &$x.$j, &$x.$k
+        )
+    };
+    (
+        $x:expr =>
+        $a:ident, $b:ident, $c:ident, $d:ident, $e:ident, $f:ident, $g:ident, $h:ident, $i:ident,
+        $j:ident, $k:ident, $l:ident $(,)?
+    ) => {
+        $crate::author::are_der_fields12(
+            &$x.$a, &$x.$b, &$x.$c, &$x.$d, &$x.$e, &$x.$f, &$x.$g, &$x.$h, &$x.$i, &$x.$j, &$x.$k,
+            &$x.$l
+        )
+    };
+    (
+        $x:expr =>
+        $a:ident, $b:ident, $c:ident, $d:ident, $e:ident, $f:ident, $g:ident, $h:ident, $i:ident,
+        $j:ident, $k:ident, $l:ident, $m:ident $(,)?
+    ) => {
+        $crate::author::are_der_fields13(
+            &$x.$a, &$x.$b, &$x.$c, &$x.$d, &$x.$e, &$x.$f, &$x.$g, &$x.$h, &$x.$i, &$x.$j, &$x.$k,
+            &$x.$l, &$x.$m
+        )
+    };
+    (
+        $x:expr =>
+        $a:ident, $b:ident, $c:ident, $d:ident, $e:ident, $f:ident, $g:ident, $h:ident, $i:ident,
+        $j:ident, $k:ident, $l:ident, $m:ident, $n:ident $(,)?
+    ) => {
+        $crate::author::are_der_fields14(
+            &$x.$a, &$x.$b, &$x.$c, &$x.$d, &$x.$e, &$x.$f, &$x.$g, &$x.$h, &$x.$i, &$x.$j, &$x.$k,
+            &$x.$l, &$x.$m, &$x.$n
+        )
+    };
+    (
+        $x:expr =>
+        $a:ident, $b:ident, $c:ident, $d:ident, $e:ident, $f:ident, $g:ident, $h:ident, $i:ident,
+        $j:ident, $k:ident, $l:ident, $m:ident, $n:ident, $o:ident $(,)?
+    ) => {
+        $crate::author::are_der_fields15(
+            &$x.$a, &$x.$b, &$x.$c, &$x.$d, &$x.$e, &$x.$f, &$x.$g, &$x.$h, &$x.$i, &$x.$j, &$x.$k,
+            &$x.$l, &$x.$m, &$x.$n, &$x.$o
+        )
+    };
+    (
+        $x:expr =>
+        $a:ident, $b:ident, $c:ident, $d:ident, $e:ident, $f:ident, $g:ident, $h:ident, $i:ident,
+        $j:ident, $k:ident, $l:ident, $m:ident, $n:ident, $o:ident, $p:ident $(,)?
+    ) => {
+        $crate::author::are_der_fields16(
             &$x.$a, &$x.$b, &$x.$c, &$x.$d, &$x.$e, &$x.$f, &$x.$g, &$x.$h, &$x.$i, &$x.$j, &$x.$k,
             &$x.$l, &$x.$m, &$x.$n, &$x.$o, &$x.$p
         )

@@ -2,7 +2,7 @@
 use Rattle.std.specs.Prelude.{◌≡◌, ◌⊎◌, ◌+◌, ◌<◌, ◌≤◌, ℕ, codes}
 use Rattle.std.specs.Prelude.{IsSome, option_map}
 use Rattle.asn1_rs.specs.Prelude.{Error, IsInvalidValue}
-use Rattle.asn1_rs.specs.Any.Value.{element_of}
+use Rattle.asn1_rs.specs.Any.Kept.{kept_value}
 use Rattle.asn1_rs.specs.Oid.{oid_value}
 use Rattle.asn1_rs_certificates.specs.declared.added.Added.{Added}
 use Rattle.asn1_rs_certificates.specs.declared.certificate.Certificate.{Certificate}
@@ -56,7 +56,7 @@ FieldsFitVersion x =
 -- one identifier, and the same parameters or none
 abbrev pub AreSameAlgorithms : AlgorithmIdentifier → AlgorithmIdentifier → Type 0
 AreSameAlgorithms x y = (oid_value x.algorithm ≡ oid_value y.algorithm) ×
-    (option_map element_of x.parameters ≡ option_map element_of y.parameters)
+    (option_map kept_value x.parameters ≡ option_map kept_value y.parameters)
 
 -- The fields fit the version, and the algorithm of the signature is the signed one.
 abbrev pub IsOfProfile : Certificate → Type 0

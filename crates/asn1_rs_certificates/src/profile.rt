@@ -1,12 +1,12 @@
 //! What RFC 5280 asks of a certificate beyond the types of its fields.
 ghost use Rattle.std.specs.Prelude.{◌≡◌, ◌↔◌, IsTrue, MatchResult, option_map};
-ghost use Rattle.asn1_rs.specs.Any.Value.{element_of};
+ghost use Rattle.asn1_rs.specs.Any.Kept.{kept_value};
 ghost use Rattle.asn1_rs_certificates.specs.Certificates.{AreSameAlgorithms, FieldsFitVersion};
 ghost use Rattle.asn1_rs_certificates.specs.Certificates.{IsOfProfile, IsOutsideProfile};
 
 use crate::{Certificate, TbsCertificate};
 use asn1_rs::laws::{Grammar, LawfulMember};
-use asn1_rs::{Any, Error, Tag};
+use asn1_rs::{Error, KeptAny, Tag};
 use asn1_rs_messages::AlgorithmIdentifier;
 
 /// Whether two items have one value, and so one strict encoding.
@@ -17,8 +17,8 @@ fn are_same<T: LawfulMember>(one: &T, other: &T) -> bool
 }
 
 /// Whether neither has parameters, or both have the same.
-fn are_same_parameters(one: &Option<Any<'_>>, other: &Option<Any<'_>>) -> bool
-    ensures { IsTrue result ↔ (option_map element_of one.now ≡ option_map element_of other.now) }
+fn are_same_parameters(one: &Option<KeptAny<'_>>, other: &Option<KeptAny<'_>>) -> bool
+    ensures { IsTrue result ↔ (option_map kept_value one.now ≡ option_map kept_value other.now) }
 {
     match (one, other) {
         (Some(one), Some(other)) => are_same(one, other),

@@ -39,17 +39,17 @@ use Rattle.asn1_rs_ldap.specs.declared.matched.Matched.TheVariants as matched
 use Rattle.asn1_rs_ldap.specs.declared.substrings.SubstringFilter.{SubstringFilter}
 
 -- a value in place of whose tag a context-specific one stands
-abbrev pub Under : Type 0 → ℕ → Type 0
-Under T number = TaggedValue T Error Implicit 2 number
+abbrev pub FilterUnder : Type 0 → ℕ → Type 0
+FilterUnder T number = TaggedValue T Error Implicit 2 number
 
-abbrev pub under : {T : Type 0} (number : ℕ) → LawfulTypeOf T → LawfulTypeOf (Under T number)
-under number T = implicit_type 2 number (λ t. t.inner) T
+abbrev pub filter_under : {T : Type 0} (number : ℕ) → LawfulTypeOf T → LawfulTypeOf (FilterUnder T number)
+filter_under number T = implicit_type 2 number (λ t. t.inner) T
 
 -- Filters that compare the value of an attribute.
 
 abbrev pub ComparedArms : Type 0
-ComparedArms = Or (Under AttributeValueAssertion 3) (Or (Under AttributeValueAssertion 5)
-    (Or (Under AttributeValueAssertion 6) (Or (Under AttributeValueAssertion 8) Never 2) 2) 2) 2
+ComparedArms = Or (FilterUnder AttributeValueAssertion 3) (Or (FilterUnder AttributeValueAssertion 5)
+    (Or (FilterUnder AttributeValueAssertion 6) (Or (FilterUnder AttributeValueAssertion 8) Never 2) 2) 2) 2
 
 abbrev pub in_compared_arms : Compared → ComparedArms
 in_compared_arms (compared.Equal x) = arm.This x
@@ -57,8 +57,8 @@ in_compared_arms (compared.AtLeast x) = arm.Other (arm.This x)
 in_compared_arms (compared.AtMost x) = arm.Other (arm.Other (arm.This x))
 in_compared_arms (compared.Approximate x) = arm.Other (arm.Other (arm.Other (arm.This x)))
 
-abbrev pub asserted : (number : ℕ) → LawfulTypeOf (Under AttributeValueAssertion number)
-asserted number = under number (struct_type value_assertion.ghosts.laws)
+abbrev pub asserted : (number : ℕ) → LawfulTypeOf (FilterUnder AttributeValueAssertion number)
+asserted number = filter_under number (struct_type value_assertion.ghosts.laws)
 
 abbrev pub compared_arms : LawfulArmsOf ComparedArms
 compared_arms = arm_before 2 (asserted 3) (arm_before 2 (asserted 5) (arm_before 2 (asserted 6)
@@ -70,7 +70,9 @@ compared_laws = choice_of in_compared_arms compared_arms refl
 -- Filters of parts of values, of attributes that are there, and of rules.
 
 abbrev pub MatchedArms : Type 0
-MatchedArms = Or (Under SubstringFilter 4) (Or (Under OctetString 7) (Or (Under MatchingRuleAssertion 9) Never 2) 2) 2
+MatchedArms =
+    Or (FilterUnder SubstringFilter 4) (Or (FilterUnder OctetString 7)
+    (Or (FilterUnder MatchingRuleAssertion 9) Never 2) 2) 2
 
 abbrev pub in_matched_arms : Matched → MatchedArms
 in_matched_arms (matched.Substrings x) = arm.This x
@@ -78,9 +80,9 @@ in_matched_arms (matched.Present x) = arm.Other (arm.This x)
 in_matched_arms (matched.Extensible x) = arm.Other (arm.Other (arm.This x))
 
 abbrev pub matched_arms : LawfulArmsOf MatchedArms
-matched_arms = arm_before 2 (under 4 (struct_type substring_filter.ghosts.laws))
-    (arm_before 2 (under 7 (leaf_type octet_string_leaf octet_string_lawful))
-    (arm_before 2 (under 9 (struct_type rule_assertion.ghosts.laws)) end_of_arms))
+matched_arms = arm_before 2 (filter_under 4 (struct_type substring_filter.ghosts.laws))
+    (arm_before 2 (filter_under 7 (leaf_type octet_string_leaf octet_string_lawful))
+    (arm_before 2 (filter_under 9 (struct_type rule_assertion.ghosts.laws)) end_of_arms))
 
 unfoldable pub matched_laws : LawfulChoiceOf Matched
 matched_laws = choice_of in_matched_arms matched_arms refl
@@ -89,10 +91,10 @@ matched_laws = choice_of in_matched_arms matched_arms refl
 
 -- a set of filters, in place of whose tag a context-specific one stands
 abbrev pub Filters : Type 0 → ℕ → Type 0
-Filters F number = Under (SetOf F) number
+Filters F number = FilterUnder (SetOf F) number
 
 abbrev pub filters_type : {F : Type 0} (number : ℕ) → LawfulChoiceOf F → LawfulTypeOf (Filters F number)
-filters_type number X = under number (multiset_type items_of (choice_type X))
+filters_type number X = filter_under number (multiset_type items_of (choice_type X))
 
 -- a filter on the heap, under a tag
 abbrev pub Negated : Type 0 → Type 0

@@ -22,14 +22,16 @@ use Rattle.asn1_rs_ldap.specs.declared.operation.Operation.{Operation}
 use Rattle.asn1_rs_ldap.specs.declared.operation.Operation.TheVariants as operations
 
 -- a value in place of whose tag one of the application class stands
-abbrev pub Under : Type 0 → ℕ → Type 0
-Under T number = TaggedValue T Error Implicit 1 number
+abbrev pub OperationUnder : Type 0 → ℕ → Type 0
+OperationUnder T number = TaggedValue T Error Implicit 1 number
 
-abbrev pub under : {T : Type 0} (number : ℕ) → LawfulTypeOf T → LawfulTypeOf (Under T number)
-under number T = implicit_type 1 number (λ t. t.inner) T
+abbrev pub operation_under : {T : Type 0} (number : ℕ) → LawfulTypeOf T → LawfulTypeOf (OperationUnder T number)
+operation_under number T = implicit_type 1 number (λ t. t.inner) T
 
 abbrev pub OperationArms : Type 0
-OperationArms = Or (Under Null 2) (Or (Under ℕ 16) (OrTaken (Under SearchRequest 3) Never OfOperations 1 3) 1) 1
+OperationArms =
+    Or (OperationUnder Null 2) (Or (OperationUnder ℕ 16)
+    (OrTaken (OperationUnder SearchRequest 3) Never OfOperations 1 3) 1) 1
 
 abbrev pub in_operation_arms : Operation → OperationArms
 in_operation_arms (operations.Unbind x) = arm.This x
@@ -37,6 +39,6 @@ in_operation_arms (operations.Abandon x) = arm.Other (arm.This x)
 in_operation_arms (operations.Search x) = arm.Other (arm.Other (record { arms = arm.This x; of = record {} }))
 
 unfoldable pub operation_laws : LawfulChoiceOf Operation
-operation_laws = choice_of in_operation_arms (arm_before 1 (under 2 (leaf_type null_leaf null_lawful))
-    (arm_before 1 (under 16 (unsigned_type 4))
-    (arms_within (λ x. x.arms) (arm_before 1 (under 3 (struct_type search_laws)) end_of_arms)))) refl
+operation_laws = choice_of in_operation_arms (arm_before 1 (operation_under 2 (leaf_type null_leaf null_lawful))
+    (arm_before 1 (operation_under 16 (unsigned_type 4))
+    (arms_within (λ x. x.arms) (arm_before 1 (operation_under 3 (struct_type search_laws)) end_of_arms)))) refl

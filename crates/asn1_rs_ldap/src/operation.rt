@@ -3,7 +3,7 @@ ghost use Rattle.std.specs.Prelude.{◌≡◌};
 ghost use Rattle.asn1_rs.specs.Prelude.{choice_numbers, choice_type, is_one_of, numbers_of_choice, parts_of};
 ghost use Rattle.asn1_rs_ldap.specs.Operations.{in_operation_arms, operation_laws};
 ghost use Rattle.asn1_rs_ldap.specs.Searches.{search_laws};
-ghost use Rattle.asn1_rs.specs.Choices.TaggedStructs.{ChecksTagged, TakesTagged, tagged_struct};
+ghost use Rattle.asn1_rs.specs.Choices.TaggedStructs.{ChecksTagged, ConvertsTaggedStruct, tagged_struct};
 ghost use Rattle.asn1_rs.specs.Choices.TaggedStructs.{tagged_checks, tagged_exact, tagged_lawful, tagged_never_oom};
 ghost use Rattle.asn1_rs_ldap.specs.declared.operation.Operation.TheVariants as operations;
 
@@ -116,13 +116,13 @@ impl<'a> ReadsChoiceByBer<'a> for Operation<'a> {
 impl<'a> TakenArm<'a, OfOperations> for Search<'a> {
     ghost item = { tagged_struct 1 3 (λ t. t.inner) search_laws };
 
-    ghost takes = { TakesTagged 1 3 (λ t. t.inner) search_laws
+    ghost takes = { ConvertsTaggedStruct 1 3 (λ t. t.inner) search_laws
         ⟦<SearchRequest<'a> as ReadsFieldsByBer<'a>>⟧.fields_give_by_ber };
 
     ghost check_may = { ChecksTagged };
 
     fn take(alloc: Global, any: Any<'a>) -> Result<Search<'a>, Error>
-        ensures { TakesTagged 1 3 (λ t. t.inner) search_laws
+        ensures { ConvertsTaggedStruct 1 3 (λ t. t.inner) search_laws
             ⟦<SearchRequest<'a> as ReadsFieldsByBer<'a>>⟧.fields_give_by_ber any.entry result }
     {
         Search::try_from_any(alloc, any)

@@ -9,7 +9,7 @@ use Rattle.asn1_rs.specs.declared.asn1_types.any.Any.{Any}
 use Rattle.asn1_rs.specs.Grammar.{TakesBody}
 use Rattle.asn1_rs.specs.Integer.{IntegerBody, IntegerCheck, IntegerCheckGives, IntegerForm, IsUnsigned, UnsignedGives}
 use Rattle.asn1_rs.specs.Integer.{integer_element, integer_number}
-use Rattle.asn1_rs.specs.Kinds.{ElementGrammar, HoldingGives, IsExactConversion, IsLawfulElement}
+use Rattle.asn1_rs.specs.Kinds.{ElementGrammar, InnerGives, IsExactConversion, IsLawfulElement}
 use Rattle.asn1_rs.specs.Kinds.Writing.{IsWrittenElement, universal_identifier}
 use Rattle.asn1_rs.specs.Laws.Integer.{integer_checks, integer_lawful, integer_written}
 use Rattle.asn1_rs.specs.Laws.Integer.Unsigned.{unsigned_converts}
@@ -30,16 +30,16 @@ abbrev pub HaveOneEncoding : (ℕ → ℕ) → Type 0
 HaveOneEncoding value = (m n : ℕ) → value m ≡ value n → unsigned_octets m ≡ unsigned_octets n
 
 -- a value that a number of one octet has
-abbrev pub HasNumber : (ℕ → ℕ) → ℕ → Type 0
-HasNumber value v = (n : ℕ) × (v ≡ value n) × IsUnsigned 1 (pos n)
+abbrev pub IsOfOneOctet : (ℕ → ℕ) → ℕ → Type 0
+IsOfOneOctet value v = (n : ℕ) × (v ≡ value n) × IsUnsigned 1 (pos n)
 
 -- numbers of one octet as elements, the values of which are these parts of the numbers
 abbrev pub valued : (ℕ → ℕ) → ElementGrammar Remainder
 valued value = record {
   Value = ℕ;
   value = λ x. value x.0;
-  IsValue = HasNumber value;
-  IsDer = HasNumber value;
+  IsValue = IsOfOneOctet value;
+  IsDer = IsOfOneOctet value;
   Body = λ p v. (n : ℕ) × (v ≡ value n) × IntegerBody (IsUnsigned 1) p (pos n);
   Check = IntegerCheck;
   Form = λ v i c. (n : ℕ) × (v ≡ value n) × IntegerForm (IsUnsigned 1) (pos n) i c;
@@ -50,7 +50,7 @@ valued value = record {
 abbrev pub valued_reading : (ℕ → ℕ) → LeafReading Remainder
 valued_reading value = record {
   element = valued value;
-  gives = HoldingGives (λ x. x.0) (OfParts (UnsignedGives 1));
+  gives = InnerGives (λ x. x.0) (OfParts (UnsignedGives 1));
   check = IntegerCheckGives;
 }
 
@@ -68,14 +68,14 @@ same_number m n e = cc
 
 module _ (value : ℕ → ℕ) where
   -- what the conversion finds is the value of the number that it finds
-  valued_converts : IsExactConversion (HoldingGives (λ x. x.0) (OfParts (UnsignedGives 1))) (valued value)
+  valued_converts : IsExactConversion (InnerGives (λ x. x.0) (OfParts (UnsignedGives 1))) (valued value)
   valued_converts = record {
     exact = exact;
     asks_no_memory = λ none any h. (unsigned_converts 1).asks_no_memory none any h;
   }
     where
       exact : (any : Any) (answer : Result Remainder Error) → IsOctets any.content.now →
-          HoldingGives (λ (x : Remainder). x.0) (OfParts (UnsignedGives 1)) any answer →
+          InnerGives (λ (x : Remainder). x.0) (OfParts (UnsignedGives 1)) any answer →
           TakesBody (valued value).Body (valued value).value false (λ (x y : Error). y ≡ x) (parts_of any) answer
       exact any (Ok x) o h = (x.0, refl, (unsigned_converts 1).exact any (Ok x.0) o h)
       exact any (Err e) o h = elim ((unsigned_converts 1).exact any (Err e) o h) [

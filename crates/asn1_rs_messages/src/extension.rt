@@ -1,18 +1,18 @@
 //! An extension of a certificate (RFC 5280, 4.1), with a field that has a default. It is read by BER and by DER, and
 //! borrowed from the octets.
-ghost use Rattle.std.specs.Prelude.{◌≡◌, IfOk, IfErr};
+ghost use Rattle.std.specs.Prelude.{◌≡◌, IfOk, IfErr, IfSome, IfNone};
 ghost use Rattle.asn1_rs.specs.Prelude.{copied_by, MadeOf, OutOfMemory, ReadsByBer, ReadsByDer, refl, seen};
 ghost use Rattle.asn1_rs.specs.Prelude.{struct_of, WritesStrict};
 
 use asn1_rs::author::{
     Fields, FieldsKind, HasKind, HasReader, LawfulStruct, ReadsFields, ReadsFieldsByBer, ReadsRow,
-    Row, Row3, StructReader,
+    Row, Row3, StructReader, TellsDerBy,
 };
-use asn1_rs::laws::Grammar;
+use asn1_rs::laws::{Grammar, TellsDer};
 use asn1_rs::{
     BerParser, DefaultFalse, Defaulted, DerParser, Error, OctetString, Oid, ParseResult,
-    SerializeResult, ToDer, ToStatic, assert_fields_valid, put_fields, read_ber, read_der,
-    read_fields, strict_vec,
+    SerializeResult, ToDer, ToStatic, are_der_fields, assert_fields_valid, copy_fields, put_fields,
+    read_ber, read_der, read_fields, strict_vec,
 };
 use std::alloc::Global;
 
@@ -79,17 +79,14 @@ impl<'a> ToStatic for Extension<'a> {
         ⟦<ExtensionRow<'static> as ToStatic>⟧.copies };
 
     fn to_static(&self, alloc: Global) -> Result<Extension<'static>, Error> {
-        match (&self.id, (&self.critical, (&self.value, ()))).to_static(alloc) {
-            Ok(row) => {
-                let (id, (critical, (value, ()))) = row;
-                Ok(Extension {
-                    id,
-                    critical,
-                    value,
-                })
-            }
-            Err(e) => Err(e),
-        }
+        copy_fields!(self, alloc => Extension { id, critical, value })
+    }
+}
+
+/// It tells whether it is in DER form, as its fields do.
+impl TellsDerBy<FieldsKind> for Extension<'_> {
+    fn der_form_by_kind(&self) -> bool {
+        are_der_fields!(self => id, critical, value)
     }
 }
 
@@ -119,6 +116,23 @@ pub fn extension_vec(alloc: Global, extension: &Extension<'_>) -> SerializeResul
         ⟦<Extension<'static> as ToDer>⟧.writing extension.now result }
 {
     strict_vec(alloc, extension)
+}
+
+/// The one strict encoding of an extension, or nothing where the extension is not in DER form.
+pub fn strict_extension(
+    alloc: Global,
+    extension: &Extension<'_>,
+) -> Option<SerializeResult<Vec<u8>>>
+    ensures strict { IfSome result (WritesStrict ⟦<Extension<'static> as Grammar>⟧.grammar
+        ⟦<Extension<'static> as ToDer>⟧.writing extension.now) }
+    ensures other { IfNone result (⟦<Extension<'static> as Grammar>⟧.grammar.IsDer
+        (⟦<Extension<'static> as Grammar>⟧.grammar.value extension.now) → ⊥) }
+{
+    if extension.is_der_form() {
+        Some(strict_vec(alloc, extension))
+    } else {
+        None
+    }
 }
 
 /// A copy of an extension, with the same value. It outlives the octets that the extension was read from. Refused only

@@ -26,13 +26,14 @@ pub use content::{
 };
 pub use extension::{
     Extension, ExtensionRow, extension_vec, kept_extension, read_extension, read_extension_by_ber,
+    strict_extension,
 };
 pub use hashed::{
     HashedCertificate, IssuerSerial, Sha256, hashed_certificate_vec, read_hashed_certificate,
 };
 pub use public_key::{
-    AlgorithmIdentifier, AlgorithmRow, PublicKeyRow, SubjectPublicKeyInfo, public_key_vec,
-    read_algorithm, read_algorithm_by_ber, read_public_key, read_public_key_by_ber,
+    AlgorithmIdentifier, AlgorithmRow, PublicKeyRow, SubjectPublicKeyInfo, kept_public_key,
+    public_key_vec, read_algorithm, read_algorithm_by_ber, read_public_key, read_public_key_by_ber,
 };
 pub use time::{
     TaggedTime, Time, TimeArms, read_tagged_time, read_time, read_time_by_ber, read_time_set,

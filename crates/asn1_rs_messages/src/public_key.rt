@@ -1,7 +1,8 @@
 //! The public key of a certificate and the algorithm that the key is for (RFC 5280, 4.1). Both are read by both rules,
 //! and borrowed from the octets.
-ghost use Rattle.asn1_rs.specs.Prelude.{key_of, MadeOf, ReadsByBer, ReadsByDer, refl, seen, struct_members, struct_of};
-ghost use Rattle.asn1_rs.specs.Prelude.{struct_type, WritesStrict};
+ghost use Rattle.std.specs.Prelude.{◌≡◌, IfOk, IfErr};
+ghost use Rattle.asn1_rs.specs.Prelude.{copied_by, key_of, MadeOf, OutOfMemory, ReadsByBer, ReadsByDer, refl, seen};
+ghost use Rattle.asn1_rs.specs.Prelude.{struct_members, struct_of, struct_type, WritesStrict};
 
 use asn1_rs::author::{
     Fields, FieldsKind, HasKind, HasReader, KeyType, LawfulStruct, MemberRow, ReadsFields,
@@ -9,8 +10,9 @@ use asn1_rs::author::{
 };
 use asn1_rs::laws::{Grammar, LawfulMember};
 use asn1_rs::{
-    Any, BerParser, BitString, DerParser, Error, Oid, ParseResult, SerializeResult, ToDer,
-    assert_fields_valid, put_fields, read_ber, read_der, read_fields, strict_vec,
+    BerParser, BitString, DerParser, Error, KeptAny, Oid, ParseResult, SerializeResult, ToDer,
+    ToStatic, assert_fields_valid, copy_fields, put_fields, read_ber, read_der, read_fields,
+    strict_vec,
 };
 use std::alloc::Global;
 
@@ -22,11 +24,11 @@ use std::alloc::Global;
 #[derive(Debug, PartialEq, Eq, Drop)]
 pub struct AlgorithmIdentifier<'a> {
     pub algorithm: Oid<'a>,
-    pub parameters: Option<Any<'a>>,
+    pub parameters: Option<KeptAny<'a>>,
 }
 
 /// Its fields.
-pub type AlgorithmRow<'a> = Row2<Oid<'a>, Option<Any<'a>>>;
+pub type AlgorithmRow<'a> = Row2<Oid<'a>, Option<KeptAny<'a>>>;
 
 impl HasKind for AlgorithmIdentifier<'_> {
     type Kind = FieldsKind;
@@ -67,6 +69,18 @@ impl<'a> ReadsFieldsByBer<'a> for AlgorithmIdentifier<'a> {
         octets: &'a [u8],
     ) -> Result<AlgorithmIdentifier<'a>, Error> {
         read_fields!(row_by_ber, alloc, octets => AlgorithmIdentifier { algorithm, parameters })
+    }
+}
+
+/// The copy owns its octets, and has the fields of its source.
+impl<'a> ToStatic for AlgorithmIdentifier<'a> {
+    type Owned = AlgorithmIdentifier<'static>;
+
+    ghost copies = { copied_by ⟦<AlgorithmIdentifier<'a> as LawfulStruct>⟧.laws.as_row
+        ⟦<AlgorithmRow<'static> as ToStatic>⟧.copies };
+
+    fn to_static(&self, alloc: Global) -> Result<AlgorithmIdentifier<'static>, Error> {
+        copy_fields!(self, alloc => AlgorithmIdentifier { algorithm, parameters })
     }
 }
 
@@ -140,6 +154,18 @@ impl<'a> ReadsFieldsByBer<'a> for SubjectPublicKeyInfo<'a> {
     }
 }
 
+/// The copy owns its octets, and has the fields of its source.
+impl<'a> ToStatic for SubjectPublicKeyInfo<'a> {
+    type Owned = SubjectPublicKeyInfo<'static>;
+
+    ghost copies = { copied_by ⟦<SubjectPublicKeyInfo<'a> as LawfulStruct>⟧.laws.as_row
+        ⟦<PublicKeyRow<'static> as ToStatic>⟧.copies };
+
+    fn to_static(&self, alloc: Global) -> Result<SubjectPublicKeyInfo<'static>, Error> {
+        copy_fields!(self, alloc => SubjectPublicKeyInfo { algorithm, subject_public_key })
+    }
+}
+
 /// The algorithm at the front of the octets, by DER, and what follows it.
 pub fn read_algorithm<'a>(
     alloc: Global,
@@ -189,4 +215,18 @@ pub fn public_key_vec(alloc: Global, key: &SubjectPublicKeyInfo<'_>) -> Serializ
         ⟦<SubjectPublicKeyInfo<'static> as ToDer>⟧.writing key.now result }
 {
     strict_vec(alloc, key)
+}
+
+/// A copy of a public key, with the same value. It outlives the octets that the key was read from. Refused only when
+/// out of memory.
+pub fn kept_public_key(
+    alloc: Global,
+    key: &SubjectPublicKeyInfo<'_>,
+) -> Result<SubjectPublicKeyInfo<'static>, Error>
+    ensures copied { IfOk result
+        (λ copy. ⟦<SubjectPublicKeyInfo<'static> as Grammar>⟧.grammar.value copy ≡
+        ⟦<SubjectPublicKeyInfo<'static> as Grammar>⟧.grammar.value key.now) }
+    ensures refused { IfErr result (λ e. e ≡ OutOfMemory) }
+{
+    key.to_static(alloc)
 }

@@ -5,11 +5,12 @@ ghost use Rattle.asn1_rs.specs.declared.choices.arms.Or.TheVariants as arm;
 ghost use Rattle.asn1_rs_messages.specs.declared.time.Time.TheVariants as times;
 
 use asn1_rs::author::{
-    ArmNumbers, Arms, ChecksChoice, ChoiceKind, ChoiceReader, HasKind, HasReader, LawfulChoice,
-    LawfulType, Never, OfArms, Or, OrUniversal, ReadsArms, ReadsChoice, ReadsChoiceByBer,
-    TakesArms, ToldByNumber, UsesArm, check_element, choice_by_der, choice_of_element,
+    ArmNumbers, Arms, ChecksChoice, ChoiceKind, ChoiceReader, DecodesChoice, HasKind, HasReader,
+    LawfulChoice, LawfulType, Never, OfArms, Or, OrUniversal, ReadsArms, ReadsChoice,
+    ReadsChoiceByBer, TakesArms, TellsDerBy, ToldByNumber, UsesArm, check_element, choice_by_der,
+    choice_in_hand, choice_of_element,
 };
-use asn1_rs::laws::Grammar;
+use asn1_rs::laws::{Grammar, TellsDer};
 use asn1_rs::{
     Any, DynTagged, Error, GeneralizedTime, ParseResult, SerializeResult, SetOf, Tag,
     TaggedExplicit, ToDer, UtcTime, read_ber, read_der, strict_vec,
@@ -85,6 +86,12 @@ impl<'a> ReadsChoice<'a> for Time {
     }
 }
 
+impl<'a> DecodesChoice<'a> for Time {
+    fn decode_choice(alloc: Global, any: Any<'a>) -> Result<Time, Error> {
+        choice_in_hand(alloc, any)
+    }
+}
+
 impl<'a> ReadsChoiceByBer<'a> for Time {
     ghost choice_takes = { ChoiceGives ⟦<Time as LawfulChoice>⟧.laws.arms.grammar.tags
         ⟦<Time as LawfulChoice>⟧.laws.as_arms ⟦<TimeArms as TakesArms<'a>>⟧.arms_take };
@@ -97,6 +104,16 @@ impl<'a> ReadsChoiceByBer<'a> for Time {
 impl ChecksChoice for Time {
     fn check_choice(any: &Any<'_>) -> Result<(), Error> {
         check_element::<TimeArms>(any)
+    }
+}
+
+/// It tells whether it is in DER form, as its arm does.
+impl TellsDerBy<ChoiceKind> for Time {
+    fn der_form_by_kind(&self) -> bool {
+        match self {
+            Time::Utc(time) => time.is_der_form(),
+            Time::General(time) => time.is_der_form(),
+        }
     }
 }
 

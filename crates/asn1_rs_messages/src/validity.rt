@@ -4,12 +4,12 @@ ghost use Rattle.asn1_rs.specs.Prelude.{MadeOf, ReadsByBer, ReadsByDer, refl, se
 use crate::time::Time;
 use asn1_rs::author::{
     Fields, FieldsKind, HasKind, HasReader, LawfulStruct, ReadsFields, ReadsFieldsByBer, ReadsRow,
-    Row, Row2, StructReader,
+    Row, Row2, StructReader, TellsDerBy,
 };
 use asn1_rs::laws::Grammar;
 use asn1_rs::{
-    BerParser, DerParser, Error, ParseResult, SerializeResult, ToDer, assert_fields_valid,
-    put_fields, read_ber, read_der, read_fields, strict_vec,
+    BerParser, DerParser, Error, ParseResult, SerializeResult, ToDer, are_der_fields,
+    assert_fields_valid, put_fields, read_ber, read_der, read_fields, strict_vec,
 };
 use std::alloc::Global;
 
@@ -63,6 +63,13 @@ impl<'a> ReadsFieldsByBer<'a> for Validity {
 
     fn read_fields_by_ber(alloc: Global, octets: &'a [u8]) -> Result<Validity, Error> {
         read_fields!(row_by_ber, alloc, octets => Validity { not_before, not_after })
+    }
+}
+
+/// It tells whether it is in DER form, as its times do.
+impl TellsDerBy<FieldsKind> for Validity {
+    fn der_form_by_kind(&self) -> bool {
+        are_der_fields!(self => not_before, not_after)
     }
 }
 

@@ -28,12 +28,12 @@ abbrev Reads : Type 0 → Type 1
 Reads T = List ℕ → Result (List ℕ × T) (Refusal Error) → Type 0
 
 -- it may answer a value, and leave this rest
-abbrev pub Takes : {T : Type 0} → Reads T → List ℕ → List ℕ → Type 0
-Takes {T} reads octets rest = (x : T) × reads octets (Ok (rest, x))
+abbrev pub Accepts : {T : Type 0} → Reads T → List ℕ → List ℕ → Type 0
+Accepts {T} reads octets rest = (x : T) × reads octets (Ok (rest, x))
 
 -- or refuse them
-abbrev pub Refuses : {T : Type 0} → Reads T → List ℕ → Type 0
-Refuses reads octets = (r : Refusal Error) × reads octets (Err r)
+abbrev pub Rejects : {T : Type 0} → Reads T → List ℕ → Type 0
+Rejects reads octets = (r : Refusal Error) × reads octets (Err r)
 
 -- What begins the octets: nothing, a header by BER, or octets that begin with none.
 abbrev pub IsFound : List ℕ → Found → Type 0
@@ -44,8 +44,8 @@ IsFound octets (what.Header class tag) = (header : Header) × (rest : List ℕ) 
     HeaderGives ber_rule ber_refusal octets (Ok (rest, header)) × (class ≡ class_of header) × (tag ≡ tag_of header)
 
 -- The place is the front of these octets, which end so many octets behind the begin of the input.
-abbrev pub IsFront : ℕ → List ℕ → Refused → Type 0
-IsFront end octets told = (told.octet ≡ end - length octets) × IsFound octets told.found
+abbrev pub IsAtFront : ℕ → List ℕ → Refused → Type 0
+IsAtFront end octets told = (told.octet ≡ end - length octets) × IsFound octets told.found
 
 -- both are told of one place
 abbrev pub HasPlaceOf : Refused → Refused → Type 0
@@ -58,8 +58,8 @@ AreEqual e f = IsTrue (equal_errors.ghosts.eq e f)
 
 -- What is told of a part, as of the value. The step to the part stands before the steps within the part. The first
 -- fifteen of these are kept.
-abbrev pub IsUnder : Step → Refused → Refused → Type 0
-IsUnder step inner told = (told.steps.items ≡ step ∷ take 15 inner.steps.items) × (told.octet ≡ inner.octet) ×
+abbrev pub IsUnderStep : Step → Refused → Refused → Type 0
+IsUnderStep step inner told = (told.steps.items ≡ step ∷ take 15 inner.steps.items) × (told.octet ≡ inner.octet) ×
     (told.found ≡ inner.found) × (told.error ≡ inner.error)
 
 -- Looking into the value tells nothing, or another error than this.
@@ -72,7 +72,7 @@ TellsNotOf e silent tells end octets =
 abbrev pub IsToldWith : Error → (List ℕ → Type 0) → (ℕ → List ℕ → Refused → Type 0) → ℕ → List ℕ → Refused → Type 0
 IsToldWith e silent tells end octets told =
     ((inner : Refused) × tells end octets inner × AreEqual inner.error e × HasPlaceOf inner told) ⊎
-    (TellsNotOf e silent tells end octets × (told.steps.items ≡ []) × IsFront end octets told)
+    (TellsNotOf e silent tells end octets × (told.steps.items ≡ []) × IsAtFront end octets told)
 
 -- A reader refuses the value, and its own refusal is told.
 abbrev pub IsToldOf : {T : Type 0} → Reads T → (List ℕ → Type 0) → (ℕ → List ℕ → Refused → Type 0) → ℕ → List ℕ →
@@ -85,12 +85,12 @@ IsToldOf reads silent tells end octets told =
 abbrev pub IsToldUnder : {T : Type 0} → Step → Reads T → (List ℕ → Type 0) → (ℕ → List ℕ → Refused → Type 0) → ℕ →
     List ℕ → Refused → Type 0
 IsToldUnder step reads silent tells end octets told =
-    (inner : Refused) × IsToldOf reads silent tells end octets inner × IsUnder step inner told
+    (inner : Refused) × IsToldOf reads silent tells end octets inner × IsUnderStep step inner told
 
 -- A value that is to stand alone is taken, and these octets behind it are told.
 abbrev pub IsToldBehind : {T : Type 0} → Reads T → ℕ → List ℕ → Refused → Type 0
-IsToldBehind reads end octets told = (rest : List ℕ) × Takes reads octets rest × (rest ≢ []) ×
-    (told.steps.items ≡ Behind ∷ []) × IsFront end rest told ×
+IsToldBehind reads end octets told = (rest : List ℕ) × Accepts reads octets rest × (rest ≢ []) ×
+    (told.steps.items ≡ Behind ∷ []) × IsAtFront end rest told ×
     (told.error ≡ errors.DerConstraintFailed constraints.TrailingOctets)
 
 -- A value that is to stand alone is refused, or octets stand behind it.
@@ -100,9 +100,9 @@ IsToldOfOne reads silent tells end octets told =
     IsToldOf reads silent tells end octets told ⊎ IsToldBehind reads end octets told
 
 -- A place is told of each refusal, with its error, and of nothing else.
-abbrev pub TellsRefusal : {T : Type 0} → (List ℕ → Result T Error → Type 0) → List ℕ → Option Refused → Type 0
-TellsRefusal {T} answers octets None = (x : T) × answers octets (Ok x)
-TellsRefusal answers octets (Some told) = answers octets (Err told.error)
+abbrev pub LocatesRefusal : {T : Type 0} → (List ℕ → Result T Error → Type 0) → List ℕ → Option Refused → Type 0
+LocatesRefusal {T} answers octets None = (x : T) × answers octets (Ok x)
+LocatesRefusal answers octets (Some told) = answers octets (Err told.error)
 
 -- Rows of fields.
 
@@ -115,24 +115,24 @@ abbrev pub TakesRow : {S : Type 0} → (List ℕ → Result S Error → Type 0) 
 TakesRow {S} gives octets = (x : S) × gives octets (Ok x)
 
 -- A row is refused, and that is told by this step, and of no part of it.
-abbrev pub IsRow : {S : Type 0} → (List ℕ → Result S Error → Type 0) → Step → ℕ → List ℕ → Refused → Type 0
-IsRow gives step end octets told =
-    (told.steps.items ≡ step ∷ []) × IsFront end octets told × gives octets (Err told.error)
+abbrev pub IsRefusedRow : {S : Type 0} → (List ℕ → Result S Error → Type 0) → Step → ℕ → List ℕ → Refused → Type 0
+IsRefusedRow gives step end octets told =
+    (told.steps.items ≡ step ∷ []) × IsAtFront end octets told × gives octets (Err told.error)
 
 -- Octets are left behind the last field, which no field takes.
 abbrev pub IsBehindLast : (List ℕ → Result (Unit {0}) Error → Type 0) → ℕ → ℕ → List ℕ → Refused → Type 0
-IsBehindLast gives place = IsRow gives NoField
+IsBehindLast gives place = IsRefusedRow gives NoField
 
 -- The fields from this place on are refused, and it is not told which of them.
 abbrev pub IsInRest : {S : Type 0} → (List ℕ → Result S Error → Type 0) → ℕ → ℕ → List ℕ → Refused → Type 0
-IsInRest gives place = IsRow gives (FieldsFrom place)
+IsInRest gives place = IsRefusedRow gives (FieldsFrom place)
 
 -- The refusal is that of the first field, or one behind it, where the first field is taken.
 abbrev pub IsInRow : {S : Type 0} → Reads S → (List ℕ → Type 0) → (ℕ → List ℕ → Refused → Type 0) →
     (ℕ → ℕ → List ℕ → Refused → Type 0) → ℕ → ℕ → List ℕ → Refused → Type 0
 IsInRow reads silent tells others place end octets told =
     IsToldUnder (Field place) reads silent tells end octets told ⊎
-    ((rest : List ℕ) × (next : ℕ) × Takes reads octets rest × (next ≡ next_place place) × others next end rest told)
+    ((rest : List ℕ) × (next : ℕ) × Accepts reads octets rest × (next ≡ next_place place) × others next end rest told)
 
 -- Contents octets of elements.
 
@@ -142,8 +142,8 @@ closing (Definite n) = 0
 closing Indefinite = 2
 
 -- The contents octets of an element, before this rest, end so many octets behind the begin of the input.
-abbrev pub IsEnd : ℕ → List ℕ → Any → ℕ → Type 0
-IsEnd end rest any its_end = its_end ≡ end - length rest - closing (length_of any.header)
+abbrev pub EndsContentAt : ℕ → List ℕ → Any → ℕ → Type 0
+EndsContentAt end rest any its_end = its_end ≡ end - length rest - closing (length_of any.header)
 
 -- a header of this class, where one is given
 abbrev pub IsOfClass : Option ℕ → Header → Type 0
@@ -151,46 +151,47 @@ IsOfClass None header = Unit {0}
 IsOfClass (Some class) header = class_number (class_of header) ≡ class
 
 -- the contents octets of an element with this header hold the parts of a value
-abbrev pub Opens : ℕ → Option ℕ → Header → Type 0
-Opens number class header =
+abbrev pub HoldsParts : ℕ → Option ℕ → Header → Type 0
+HoldsParts number class header =
     ((tag_of header).0 ≡ number) × (is_constructed_of header ≡ true) × IsOfClass class header
 
 -- this element, which opens, begins the octets, and the rest follows
-abbrev pub IsOpened : Reads Any → ℕ → Option ℕ → List ℕ → Any → List ℕ → Type 0
-IsOpened elements number class octets any rest = elements octets (Ok (rest, any)) × Opens number class any.header
+abbrev pub BeginsOpened : Reads Any → ℕ → Option ℕ → List ℕ → Any → List ℕ → Type 0
+BeginsOpened elements number class octets any rest = elements octets (Ok (rest, any)) ×
+    HoldsParts number class any.header
 
 -- no element begins the octets, or one that does not open
 abbrev pub IsClosed : Reads Any → ℕ → Option ℕ → List ℕ → Type 0
-IsClosed elements number class octets = Refuses elements octets ⊎
-    ((any : Any) × (rest : List ℕ) × elements octets (Ok (rest, any)) × (Opens number class any.header → ⊥))
+IsClosed elements number class octets = Rejects elements octets ⊎
+    ((any : Any) × (rest : List ℕ) × elements octets (Ok (rest, any)) × (HoldsParts number class any.header → ⊥))
 
 -- what is told is told of the contents octets of the element
 abbrev pub IsInContents : Reads Any → ℕ → Option ℕ → (ℕ → List ℕ → Refused → Type 0) → ℕ → List ℕ → Refused → Type 0
 IsInContents elements number class tells end octets told =
-    (any : Any) × (rest : List ℕ) × (its_end : ℕ) × IsOpened elements number class octets any rest ×
-    IsEnd end rest any its_end × tells its_end any.content.now told
+    (any : Any) × (rest : List ℕ) × (its_end : ℕ) × BeginsOpened elements number class octets any rest ×
+    EndsContentAt end rest any its_end × tells its_end any.content.now told
 
 -- nothing is told of them: there is no such element, or its contents octets are taken
 abbrev pub AreTaken : Reads Any → ℕ → Option ℕ → (List ℕ → Type 0) → List ℕ → Type 0
 AreTaken elements number class takes octets = IsClosed elements number class octets ⊎
-    ((any : Any) × (rest : List ℕ) × IsOpened elements number class octets any rest × takes any.content.now)
+    ((any : Any) × (rest : List ℕ) × BeginsOpened elements number class octets any rest × takes any.content.now)
 
 -- the value under a tag, which is to stand alone, is refused, or octets stand behind it
 abbrev pub IsInTag : {T : Type 0} → Reads T → (List ℕ → Type 0) → (ℕ → List ℕ → Refused → Type 0) → ℕ → List ℕ →
     Refused → Type 0
 IsInTag reads silent tells end octets told =
-    (inner : Refused) × IsToldOfOne reads silent tells end octets inner × IsUnder Tagged inner told
+    (inner : Refused) × IsToldOfOne reads silent tells end octets inner × IsUnderStep Tagged inner told
 
 -- a value is taken, whatever follows it
 abbrev pub TakesOne : {T : Type 0} → Reads T → List ℕ → Type 0
-TakesOne reads octets = (rest : List ℕ) × Takes reads octets rest
+TakesOne reads octets = (rest : List ℕ) × Accepts reads octets rest
 
 -- Items of lists.
 
 -- So many items are taken, one after another, and leave this rest.
 abbrev pub TakesItems : {T : Type 0} → Reads T → ℕ → List ℕ → List ℕ → Type 0
 TakesItems reads zero octets rest = rest ≡ octets
-TakesItems reads (suc n) octets rest = (left : List ℕ) × TakesItems reads n octets left × Takes reads left rest
+TakesItems reads (suc n) octets rest = (left : List ℕ) × TakesItems reads n octets left × Accepts reads left rest
 
 -- The octets are items, or begin with as many as there are octets.
 abbrev pub TakesAll : {T : Type 0} → Reads T → List ℕ → Type 0
@@ -204,8 +205,8 @@ IsInItems reads silent tells end octets told = (n : ℕ) × (left : List ℕ) ×
     IsToldUnder (Item n) reads silent tells end left told
 
 -- Where nothing is looked into, nothing is told.
-abbrev pub TellsNothing : ℕ → List ℕ → Refused → Type 0
-TellsNothing end octets told = ⊥
+abbrev pub LocatesNothing : ℕ → List ℕ → Refused → Type 0
+LocatesNothing end octets told = ⊥
 
 abbrev pub IsNotLookedInto : List ℕ → Type 0
 IsNotLookedInto octets = Unit {0}
@@ -236,7 +237,7 @@ IsInChoice elements tells end octets told = (any : Any) × (rest : List ℕ) × 
 
 -- no element begins the octets, or nothing is told of its arm
 abbrev pub ChoiceIsTaken : Reads Any → (Header → List ℕ → Type 0) → List ℕ → Type 0
-ChoiceIsTaken elements silent octets = Refuses elements octets ⊎
+ChoiceIsTaken elements silent octets = Rejects elements octets ⊎
     ((any : Any) × (rest : List ℕ) × elements octets (Ok (rest, any)) × silent any.header octets)
 
 -- Where arms are not looked into, nothing is told.

@@ -2,7 +2,7 @@
 ghost use Rattle.std.specs.Prelude.{◌≡◌, length, IfSome, MatchOption};
 ghost use Rattle.asn1_rs.specs.Prelude.{IsWhole, TakesWhole};
 ghost use Rattle.asn1_rs.specs.Grammar.Item.{ber_words};
-ghost use Rattle.asn1_rs_places.specs.Places.{IsToldOf, IsToldOfOne, TakesOne, TellsRefusal};
+ghost use Rattle.asn1_rs_places.specs.Places.{IsToldOf, IsToldOfOne, TakesOne, LocatesRefusal};
 
 use crate::looks::{LooksInto, place_of_one, told};
 use crate::refused::Refused;
@@ -50,9 +50,9 @@ pub fn place_by_der_whole<'a, T, L>(alloc: Global, octets: &'a [u8]) -> Option<R
 where
     T: LawfulDer<'a, Error> + Drop,
     L: LooksInto<'a, DerParser, T>,
-    ensures exact { TellsRefusal (IsWhole T.grammar.Der T.grammar.value T.grammar.allocates)
+    ensures exact { LocatesRefusal (IsWhole T.grammar.Der T.grammar.value T.grammar.allocates)
         octets.now result }
-    ensures refusal { TellsRefusal (TakesWhole T.der_gives) octets.now result }
+    ensures refusal { LocatesRefusal (TakesWhole T.der_gives) octets.now result }
     ensures place { IfSome result
         (IsToldOfOne T.der_gives L.silent L.tells (length octets.now) octets.now) }
 {
@@ -64,9 +64,10 @@ pub fn place_by_ber_whole<'a, T, L>(alloc: Global, octets: &'a [u8]) -> Option<R
 where
     T: LawfulBer<'a, Error> + Drop,
     L: LooksInto<'a, BerParser, T>,
-    ensures exact { TellsRefusal (IsWhole (ber_words T.grammar) T.grammar.value T.grammar.allocates)
+    ensures exact { LocatesRefusal (IsWhole (ber_words T.grammar) T.grammar.value
+        T.grammar.allocates)
         octets.now result }
-    ensures refusal { TellsRefusal (TakesWhole T.ber_gives) octets.now result }
+    ensures refusal { LocatesRefusal (TakesWhole T.ber_gives) octets.now result }
     ensures place { IfSome result
         (IsToldOfOne T.ber_gives L.silent L.tells (length octets.now) octets.now) }
 {

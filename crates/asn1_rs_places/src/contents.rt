@@ -1,7 +1,8 @@
 //! Contents octets of constructed elements, and values under tags.
 ghost use Rattle.std.specs.Prelude.{◌≡◌, ◌↔◌, [], ℕ, List, IsTrue, None, Some, MatchOption};
-ghost use Rattle.asn1_rs_places.specs.Places.{closing, AreTaken, IsClosed, IsEnd, IsInContents, IsOfClass, IsOpened};
-ghost use Rattle.asn1_rs_places.specs.Places.{IsInTag, Opens, Takes};
+ghost use Rattle.asn1_rs_places.specs.Places.{closing, AreTaken, IsClosed, EndsContentAt, IsInContents, IsOfClass};
+ghost use Rattle.asn1_rs_places.specs.Places.{BeginsOpened};
+ghost use Rattle.asn1_rs_places.specs.Places.{IsInTag, HoldsParts, Accepts};
 
 use crate::looks::{LooksInto, LooksWithin, ReadsValue, place_of_one};
 use crate::refused::{Refused, Step};
@@ -21,7 +22,7 @@ fn is_of_class(header: &Header<'_>, class: Option<u8>) -> bool
 
 /// Whether the contents octets of an element with this header hold the parts of a value.
 fn opens(header: &Header<'_>, number: u32, class: Option<u8>) -> bool
-    ensures { IsTrue result ↔ Opens number class header.now }
+    ensures { IsTrue result ↔ HoldsParts number class header.now }
 {
     header.tag().0 == number && header.constructed() && is_of_class(header, class)
 }
@@ -50,8 +51,8 @@ where
     ensures { MatchOption result
         (IsClosed ⟦<Any<'a> as ReadsValue<'a, P>>⟧.value_gives number class octets.now)
         (λ x. (rest : List ℕ)
-        × IsOpened ⟦<Any<'a> as ReadsValue<'a, P>>⟧.value_gives number class octets.now x.0 rest
-        × IsEnd end rest x.0 x.1) }
+        × BeginsOpened ⟦<Any<'a> as ReadsValue<'a, P>>⟧.value_gives number class octets.now x.0 rest
+        × EndsContentAt end rest x.0 x.1) }
 {
     match <Any<'a> as ReadsValue<'a, P>>::read_value(alloc, octets) {
         Ok((rest, any)) => {
@@ -97,7 +98,7 @@ fn look_under_tag<'a, P, T, L>(alloc: Global, octets: &'a [u8], end: usize) -> O
 where
     T: ReadsValue<'a, P> + Drop,
     L: LooksInto<'a, P, T>,
-    ensures { MatchOption result (Takes T.value_gives octets.now [])
+    ensures { MatchOption result (Accepts T.value_gives octets.now [])
         (IsInTag T.value_gives L.silent L.tells end octets.now) }
 {
     match place_of_one::<P, T, L>(alloc, octets, end) {
@@ -119,7 +120,7 @@ where
     T: ReadsValue<'a, P> + Drop,
     L: LooksInto<'a, P, T>,
 {
-    ghost takes = { λ octets. Takes T.value_gives octets [] };
+    ghost takes = { λ octets. Accepts T.value_gives octets [] };
 
     ghost tells_within = { IsInTag T.value_gives L.silent L.tells };
 
@@ -139,7 +140,7 @@ where
     L: LooksInto<'a, P, T>,
 {
     ghost silent = { AreTaken ⟦<Any<'a> as ReadsValue<'a, P>>⟧.value_gives TAG (Some CLASS)
-        (λ octets. Takes T.value_gives octets []) };
+        (λ octets. Accepts T.value_gives octets []) };
 
     ghost tells = { IsInContents ⟦<Any<'a> as ReadsValue<'a, P>>⟧.value_gives TAG (Some CLASS)
         (IsInTag T.value_gives L.silent L.tells) };

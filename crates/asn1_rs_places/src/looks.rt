@@ -4,7 +4,7 @@ ghost use Rattle.asn1_rs.specs.Prelude.{Error, seen};
 ghost use Rattle.asn1_rs.specs.FieldReader.{BecomesError};
 ghost use Rattle.asn1_headers.specs.declared.error.Err.{Err as Refusal};
 ghost use Rattle.asn1_rs_places.specs.declared.refused.Refused.{Refused};
-ghost use Rattle.asn1_rs_places.specs.Places.{IsNotLookedInto, IsToldOfOne, IsToldWith, Takes, TellsNothing};
+ghost use Rattle.asn1_rs_places.specs.Places.{IsNotLookedInto, IsToldOfOne, IsToldWith, Accepts, LocatesNothing};
 
 use crate::refused::Refused;
 use asn1_rs::{BerParser, Defaulted, DerParser, Err, Error, FromBer, FromDer, ParseResult};
@@ -100,7 +100,7 @@ pub(crate) fn place_of_one<'a, P, T, L>(
 where
     T: ReadsValue<'a, P> + Drop,
     L: LooksInto<'a, P, T>,
-    ensures { MatchOption result (Takes T.value_gives octets.now [])
+    ensures { MatchOption result (Accepts T.value_gives octets.now [])
         (IsToldOfOne T.value_gives L.silent L.tells end octets.now) }
 {
     match T::read_value(alloc, octets) {
@@ -119,7 +119,7 @@ pub struct Whole;
 impl<'a, P, T> LooksInto<'a, P, T> for Whole {
     ghost silent = { IsNotLookedInto };
 
-    ghost tells = { TellsNothing };
+    ghost tells = { LocatesNothing };
 
     fn look(_alloc: Global, _octets: &'a [u8], _end: usize) -> Option<Refused> {
         None

@@ -2,7 +2,7 @@
 ghost use Rattle.std.specs.Prelude.{◌≡◌, ◌≢◌, [], ◌∷◌, ◌-◌, length};
 ghost use Rattle.asn1_headers.specs.declared.error.DerConstraint.TheVariants as constraints;
 ghost use Rattle.asn1_headers.specs.declared.error.Error.TheVariants as errors;
-ghost use Rattle.asn1_rs_places.specs.Places.{HasPlaceOf, IsFound, IsFront, IsUnder};
+ghost use Rattle.asn1_rs_places.specs.Places.{HasPlaceOf, IsFound, IsAtFront, IsUnderStep};
 ghost use Rattle.asn1_rs_places.specs.declared.refused.Step.TheVariants.{Behind};
 
 use arrayvec::ArrayVec;
@@ -76,7 +76,7 @@ impl Refused {
     /// A refusal at the front of these octets, which end so many octets behind the begin of the input.
     pub(crate) fn at_front(octets: &[u8], end: usize, error: Error) -> Refused
         ensures steps { result.steps.items ≡ [] }
-        ensures front { IsFront end octets.now result }
+        ensures front { IsAtFront end octets.now result }
         ensures error { result.error ≡ error }
     {
         Refused {
@@ -90,7 +90,7 @@ impl Refused {
     /// The refusal of these octets, since they stand behind a value that is to stand alone.
     pub(crate) fn behind(octets: &[u8], end: usize) -> Refused
         ensures steps { result.steps.items ≡ Behind ∷ [] }
-        ensures front { IsFront end octets.now result }
+        ensures front { IsAtFront end octets.now result }
         ensures error { result.error ≡ errors.DerConstraintFailed constraints.TrailingOctets }
     {
         let error = Error::DerConstraintFailed(DerConstraint::TrailingOctets);
@@ -99,7 +99,7 @@ impl Refused {
 
     /// The same refusal, told of the value that holds the part to which this step leads.
     pub(crate) fn under(self, step: Step) -> Refused
-        ensures { IsUnder step self result }
+        ensures { IsUnderStep step self result }
     {
         let mut steps = self.steps;
         steps.truncate(15);

@@ -6,7 +6,7 @@ use Rattle.std.proofs.Math.Seq.{take-append_seam}
 use Rattle.x690.specs.Elements.{IsDerElement}
 use Rattle.x690.specs.Faults.{DerElementFault}
 use Rattle.x690.specs.Identifiers.{IsTruncatedIdentifier}
-use Rattle.asn1_headers.specs.Answers.{Front}
+use Rattle.asn1_headers.specs.Answers.{HasPrefix}
 use Rattle.asn1_headers.specs.Header.Reading.{der_violation}
 use Rattle.asn1_headers.specs.declared.error.Err.{Err as Refusal}
 use Rattle.asn1_headers.specs.declared.error.Error.{Error}
@@ -14,10 +14,10 @@ use Rattle.asn1_rs.specs.declared.asn1_types.any.Any.{Any}
 use Rattle.asn1_rs.specs.Any.{DerElementGives, parts_of}
 use Rattle.asn1_rs.specs.Grammar.Item.{IsLawfulItem, ItemGrammar}
 use Rattle.asn1_rs.specs.Laws.Any.{refusal_lasts}
-use Rattle.asn1_rs.specs.Laws.Readers.{der_elements, speaks_now}
+use Rattle.asn1_rs.specs.Laws.Readers.{der_elements, refusal_speaks_now}
 
 module _ {T : Type 0} (G : ItemGrammar T) (l : IsLawfulItem G) (input : List ℕ) (v : G.Value) (rest : List ℕ)
-    (f : Front G.Der input v rest) where
+    (f : HasPrefix G.Der input v rest) where
   -- what follows the value follows the element
   pub same_rest : (other : List ℕ) (any : Any) → DerElementGives input (Ok (other, any)) → rest ≡ other
   same_rest other any g =
@@ -32,7 +32,7 @@ module _ {T : Type 0} (G : ItemGrammar T) (l : IsLawfulItem G) (input : List ℕ
   no_refusal r g =
       let p = l.der_element f.word v f.fits in
       refusal_lasts IsDerElement DerElementFault IsTruncatedIdentifier der_elements der_violation input r g [] f.word rest
-      p.0 (speaks_now (IsTruncatedIdentifier input) r) p.1 (append-nil input ∙ f.is)
+      p.0 (refusal_speaks_now (IsTruncatedIdentifier input) r) p.1 (append-nil input ∙ f.is)
 
 -- The octets before what is left are those in front of it.
 pub front_taken : (octets front rest : List ℕ) (n : ℕ) → octets ≡ front ++ rest → n ≡ length octets - length rest →

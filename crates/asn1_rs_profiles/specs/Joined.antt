@@ -26,8 +26,8 @@ abbrev pub held_in : {K : Type 0} → Joined K → CowSlice ℕ Global
 held_in x = x.octets
 
 -- the octets of a string
-abbrev pub octets_in : {K : Type 0} → Joined K → List ℕ
-octets_in x = cow_slice_items x.octets
+abbrev pub octets_of_joined : {K : Type 0} → Joined K → List ℕ
+octets_of_joined x = cow_slice_items x.octets
 
 -- An element with the tag number, primitive or in pieces, that says octets which the type has.
 abbrev pub JoinedBody : ℕ → (List ℕ → Type 0) → Parts → List ℕ → Type 0
@@ -41,7 +41,7 @@ IsStrictContent IsText v c = (IsOctets v × IsText v) × (c ≡ v)
 abbrev pub joined_element : {K : Type 0} → ℕ → (List ℕ → Type 0) → ElementGrammar (Joined K)
 joined_element number IsText = record {
   Value = List ℕ;
-  value = octets_in;
+  value = octets_of_joined;
   IsValue = IsOctets;
   IsDer = λ v. IsOctets v × IsText v;
   Body = JoinedBody number IsText;
@@ -59,7 +59,7 @@ JoinedRefuses IsText p e = TakesOctets p (Err e) ⊎
 -- What the conversion of an element may answer: the octets that it says, which are lent where it is primitive; or the
 -- first refusal in this order: that of its tag number, of its pieces, of its octets.
 abbrev pub JoinedGives : {K : Type 0} → ℕ → (List ℕ → Type 0) → Any → Result (Joined K) Error → Type 0
-JoinedGives number IsText any (Ok x) = JoinedBody number IsText (parts_of any) (octets_in x) ×
+JoinedGives number IsText any (Ok x) = JoinedBody number IsText (parts_of any) (octets_of_joined x) ×
     ((parts_of any).id.constructed ≡ false → IsBorrowedSlice (held_in x))
 JoinedGives number IsText any (Err e) = has_number number (parts_of any) (Err e) ⊎
     (((parts_of any).id.number ≡ number) × JoinedRefuses IsText (parts_of any) e)

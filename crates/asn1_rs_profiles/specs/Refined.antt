@@ -51,10 +51,10 @@ RefinedRefuses {S} keeps own from takes any e =
     takes any (Err e) ⊎ ((x : S) × takes any (Ok x) × (keeps x ≡ false) × TellsOutside own from e)
 
 -- What the conversion to a subtype may answer: a value that the type takes and that has the property, or such a refusal.
-abbrev pub RefinedTakes : {S T E : Type 0} → (T → S) → (S → Bool) → (Error → Type 0) → (Error → E → Type 0) →
+abbrev pub RefinedConverts : {S T E : Type 0} → (T → S) → (S → Bool) → (Error → Type 0) → (Error → E → Type 0) →
     (Any → Result S E → Type 0) → Any → Result T E → Type 0
-RefinedTakes held keeps own from takes any (Ok x) = takes any (Ok (held x)) × IsTrue (keeps (held x))
-RefinedTakes held keeps own from takes any (Err e) = RefinedRefuses keeps own from takes any e
+RefinedConverts held keeps own from takes any (Ok x) = takes any (Ok (held x)) × IsTrue (keeps (held x))
+RefinedConverts held keeps own from takes any (Err e) = RefinedRefuses keeps own from takes any e
 
 -- The same of its reader by DER.
 abbrev pub RefinedReads : {S T E : Type 0} → (T → S) → (S → Bool) → (Error → Type 0) → (Error → E → Type 0) →

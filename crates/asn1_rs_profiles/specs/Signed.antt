@@ -14,7 +14,7 @@ use Rattle.asn1_rs.specs.Any.{DerElementGives, parts_of}
 use Rattle.asn1_rs.specs.Any.Value.{ElementValue, IsElementValue, element_of}
 use Rattle.asn1_rs.specs.Any.Writing.{element_writing}
 use Rattle.asn1_rs.specs.Grammar.Item.{ItemGrammar}
-use Rattle.asn1_rs.specs.ToDer.{Writing, held_writing, whole_octets}
+use Rattle.asn1_rs.specs.ToDer.{Writing, inner_writing, whole_octets}
 
 -- what the parts of an element say, however its length was written
 abbrev pub said_by : Parts → ElementValue
@@ -53,7 +53,7 @@ signed_grammar element inner G = record {
 
 -- what is written: the element
 abbrev pub signed_writing : {S : Type 0} → (S → Any) → Writing S
-signed_writing element = held_writing element element_writing
+signed_writing element = inner_writing element element_writing
 
 -- What the reader by DER may answer: the value that is read of the octets, and the element at their front; or the
 -- refusal of the value.
@@ -64,7 +64,7 @@ SignedReads element inner reads input (Ok x) =
 SignedReads element inner reads input (Err r) = reads input (Err r)
 
 -- What the conversion of an element may answer: its value beside its parts; or the refusal of the value, or memory.
-abbrev pub SignedTakes : {S T : Type 0} → (S → Any) → (S → T) → (Any → Result T Error → Type 0) → Any →
+abbrev pub SignedConverts : {S T : Type 0} → (S → Any) → (S → T) → (Any → Result T Error → Type 0) → Any →
     Result S Error → Type 0
-SignedTakes element inner takes any (Ok x) = (parts_of (element x) ≡ parts_of any) × takes any (Ok (inner x))
-SignedTakes element inner takes any (Err e) = (e ≡ OutOfMemory) ⊎ takes any (Err e)
+SignedConverts element inner takes any (Ok x) = (parts_of (element x) ≡ parts_of any) × takes any (Ok (inner x))
+SignedConverts element inner takes any (Err e) = (e ≡ OutOfMemory) ⊎ takes any (Err e)

@@ -5,7 +5,7 @@ ghost use Rattle.asn1_rs.specs.Checks.{is_primitive};
 ghost use Rattle.asn1_rs.specs.Leaf.{LeafGives};
 ghost use Rattle.asn1_rs.specs.LeafReading.{leaf_reading};
 ghost use Rattle.asn1_rs.specs.Laws.Leaf.{leaf_exact, leaf_written};
-ghost use Rattle.asn1_rs_profiles.specs.Primitive.{octets_in, primitive_leaf};
+ghost use Rattle.asn1_rs_profiles.specs.Primitive.{octets_of_primitive, primitive_leaf};
 ghost use Rattle.asn1_rs_profiles.specs.Primitive.Laws.{primitive_equal, primitive_lawful};
 
 use crate::joined::{JoinedKind, OctetKind};
@@ -33,7 +33,7 @@ pub type PrimitiveOctets<'a> = Primitive<'a, OctetKind>;
 impl<'a, K> Primitive<'a, K> {
     /// The string of these octets. Whether its type has them is not looked at.
     pub const fn new(octets: &'a [u8]) -> Self
-        ensures { octets_in result ≡ octets.now }
+        ensures { octets_of_primitive result ≡ octets.now }
     {
         Primitive {
             octets,
@@ -43,7 +43,7 @@ impl<'a, K> Primitive<'a, K> {
 
     /// The octets.
     pub fn as_bytes(&self) -> &'a [u8]
-        ensures { result.now ≡ octets_in self.now }
+        ensures { result.now ≡ octets_of_primitive self.now }
     {
         self.octets
     }
@@ -101,7 +101,7 @@ impl DerElement for Primitive<'_, OctetKind> {
 }
 
 impl<K: JoinedKind> WritesOctets for Primitive<'_, K> {
-    ghost held = { octets_in };
+    ghost held = { octets_of_primitive };
 
     fn contents_octets(&self) -> &[u8] {
         self.octets

@@ -45,16 +45,16 @@ bulk_pdu_laws = struct_of (λ x. (x.request_id, (x.non_repeaters, (x.max_repetit
     (then_row (field_of (list_type (λ v. v.items) (struct_type var_bind_laws))) end_row)))) refl
 
 -- a struct in place of whose tag a context-specific one stands
-abbrev pub Under : Type 0 → ℕ → Type 0
-Under T number = TaggedValue T Error Implicit 2 number
+abbrev pub PduUnder : Type 0 → ℕ → Type 0
+PduUnder T number = TaggedValue T Error Implicit 2 number
 
-abbrev pub under : {T : Type 0} (number : ℕ) → LawfulStructOf T → LawfulTypeOf (Under T number)
-under number T = implicit_type 2 number (λ t. t.inner) (struct_type T)
+abbrev pub pdu_under : {T : Type 0} (number : ℕ) → LawfulStructOf T → LawfulTypeOf (PduUnder T number)
+pdu_under number T = implicit_type 2 number (λ t. t.inner) (struct_type T)
 
 -- Requests and notices. Their laws go by names too.
 
 abbrev pub RequestArms : Type 0
-RequestArms = Or (Under Pdu 0) (Or (Under Pdu 1) (Or (Under Pdu 3) (Or (Under BulkPdu 5) Never 2) 2) 2) 2
+RequestArms = Or (PduUnder Pdu 0) (Or (PduUnder Pdu 1) (Or (PduUnder Pdu 3) (Or (PduUnder BulkPdu 5) Never 2) 2) 2) 2
 
 abbrev pub in_request_arms : RequestPdus → RequestArms
 in_request_arms (requests.Get x) = arm.This x
@@ -63,11 +63,11 @@ in_request_arms (requests.Set x) = arm.Other (arm.Other (arm.This x))
 in_request_arms (requests.GetBulk x) = arm.Other (arm.Other (arm.Other (arm.This x)))
 
 unfoldable pub request_laws : LawfulChoiceOf RequestPdus
-request_laws = choice_of in_request_arms (arm_before 2 (under 0 pdu_laws) (arm_before 2 (under 1 pdu_laws)
-    (arm_before 2 (under 3 pdu_laws) (arm_before 2 (under 5 bulk_pdu_laws) end_of_arms)))) refl
+request_laws = choice_of in_request_arms (arm_before 2 (pdu_under 0 pdu_laws) (arm_before 2 (pdu_under 1 pdu_laws)
+    (arm_before 2 (pdu_under 3 pdu_laws) (arm_before 2 (pdu_under 5 bulk_pdu_laws) end_of_arms)))) refl
 
 abbrev pub NoticeArms : Type 0
-NoticeArms = Or (Under Pdu 2) (Or (Under Pdu 6) (Or (Under Pdu 7) (Or (Under Pdu 8) Never 2) 2) 2) 2
+NoticeArms = Or (PduUnder Pdu 2) (Or (PduUnder Pdu 6) (Or (PduUnder Pdu 7) (Or (PduUnder Pdu 8) Never 2) 2) 2) 2
 
 abbrev pub in_notice_arms : NoticePdus → NoticeArms
 in_notice_arms (notices.Response x) = arm.This x
@@ -76,8 +76,8 @@ in_notice_arms (notices.Trap x) = arm.Other (arm.Other (arm.This x))
 in_notice_arms (notices.Report x) = arm.Other (arm.Other (arm.Other (arm.This x)))
 
 unfoldable pub notice_laws : LawfulChoiceOf NoticePdus
-notice_laws = choice_of in_notice_arms (arm_before 2 (under 2 pdu_laws) (arm_before 2 (under 6 pdu_laws)
-    (arm_before 2 (under 7 pdu_laws) (arm_before 2 (under 8 pdu_laws) end_of_arms)))) refl
+notice_laws = choice_of in_notice_arms (arm_before 2 (pdu_under 2 pdu_laws) (arm_before 2 (pdu_under 6 pdu_laws)
+    (arm_before 2 (pdu_under 7 pdu_laws) (arm_before 2 (pdu_under 8 pdu_laws) end_of_arms)))) refl
 
 -- What a message holds.
 

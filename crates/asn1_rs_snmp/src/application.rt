@@ -2,7 +2,7 @@
 ghost use Rattle.asn1_rs.specs.Prelude.{ChecksOf, choice_numbers, choice_of, choice_type, class_number, has_a_class};
 ghost use Rattle.asn1_rs.specs.Prelude.{has_a_tag, is_one_of, numbers_of_choice, parts_of, refl};
 ghost use Rattle.std.specs.Prelude.{◌≡◌, length};
-ghost use Rattle.asn1_rs.specs.OctetString.{octets_of};
+ghost use Rattle.asn1_rs.specs.OctetString.{string_octets};
 ghost use Rattle.asn1_rs.specs.declared.choices.arms.Or.TheVariants as arm;
 ghost use Rattle.asn1_rs.specs.declared.choices.nested.OrChoice.TheVariants as part;
 ghost use Rattle.asn1_rs_snmp.specs.declared.application.ApplicationSyntax.TheVariants as wides;
@@ -154,5 +154,5 @@ impl<'a> LawfulType for ApplicationSyntax<'a> {
 
 /// An address in hand is an address of version 4.
 pub fn has_four_octets(address: &IpAddress<'_>)
-    ensures { length (octets_of address.now.inner.value) ≡ 4 }
+    ensures { length (string_octets address.now.inner.value) ≡ 4 }
 {}

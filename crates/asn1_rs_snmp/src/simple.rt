@@ -2,7 +2,7 @@
 ghost use Rattle.asn1_rs.specs.Prelude.{ChecksOf, choice_numbers, choice_of, choice_type, class_number, has_a_class};
 ghost use Rattle.asn1_rs.specs.Prelude.{has_a_tag, is_one_of, numbers_of_choice, parts_of, refl};
 ghost use Rattle.std.specs.Prelude.{◌≡◌, ◌≤◌, length};
-ghost use Rattle.asn1_rs.specs.OctetString.{octets_of};
+ghost use Rattle.asn1_rs.specs.OctetString.{string_octets};
 ghost use Rattle.asn1_rs.specs.declared.choices.arms.Or.TheVariants as arm;
 ghost use Rattle.asn1_rs_snmp.specs.declared.simple.SimpleSyntax.TheVariants as simples;
 
@@ -149,5 +149,5 @@ impl<'a> LawfulType for SimpleSyntax<'a> {
 
 /// A string in hand is no longer than each agent takes.
 pub fn is_short(string: &ShortString<'_>)
-    ensures { length (octets_of string.now.value) ≤ 65535 }
+    ensures { length (string_octets string.now.value) ≤ 65535 }
 {}

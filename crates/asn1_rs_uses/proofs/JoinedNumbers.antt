@@ -9,7 +9,7 @@ use Rattle.x690.specs.Elements.{Parts}
 use Rattle.x690.specs.Joined.{IsConcatenation}
 use Rattle.x690.specs.Octets.{IsOctets}
 use Rattle.asn1_headers.specs.Answers.{IsOther}
-use Rattle.asn1_headers.specs.Error.{HeldIn}
+use Rattle.asn1_headers.specs.Error.{ErrorIs}
 use Rattle.asn1_headers.specs.Header.Reading.{der_refusal}
 use Rattle.asn1_headers.specs.declared.error.Err.{Err as Refusal}
 use Rattle.asn1_headers.specs.declared.error.Err.TheVariants.{Incomplete as truncated, Error as refused, Failure as failed}
@@ -18,7 +18,7 @@ use Rattle.asn1_headers.specs.declared.error.Error.TheVariants as errors
 use Rattle.asn1_rs.specs.declared.asn1_types.set.set_of.SetOf.{SetOf}
 use Rattle.asn1_rs.specs.Any.{parts_of}
 use Rattle.asn1_rs.specs.Checks.{has_number}
-use Rattle.asn1_rs.specs.Lists.{ItemsGive, ListOf, ListTakes, MadeOf, listed}
+use Rattle.asn1_rs.specs.Lists.{ItemsGive, ListOf, ListConverts, IsListMadeOf, listed}
 use Rattle.asn1_rs.specs.Sequence.Iterator.{IsMemory, TellsNoWord, EndsJoined}
 use Rattle.asn1_rs.specs.Set.{HasItems, items_of}
 use Rattle.asn1_rs.specs.Traits.{DerGives, OfParts, PassesAll}
@@ -47,10 +47,10 @@ module _ {T E : Type 0} (reads : List ℕ → Result (List ℕ × T) (Refusal E)
 -- a set of numbers that was read, by what the law says of the element
 pub set_begins : (reads : List ℕ → Result (List ℕ × ℕ) (Refusal Error) → Type 0) (octets : List ℕ) →
     ((number : ℕ) (p : Parts) (list : SetOf ℕ) → IsOctets p.content →
-    ListTakes (has_number number) HasItems reads same p (Ok list) →
-    MadeOf (ListOf number NumberByDer) pos HasItems p list) →
+    ListConverts (has_number number) HasItems reads same p (Ok list) →
+    IsListMadeOf (ListOf number NumberByDer) pos HasItems p list) →
     (r : Result (List ℕ × SetOf ℕ) (Refusal Error)) →
-    DerGives PassesAll (OfParts (ListTakes (has_number 17) HasItems reads same)) same octets r →
+    DerGives PassesAll (OfParts (ListConverts (has_number 17) HasItems reads same)) same octets r →
     IfOk r (λ x. BeginsWithNumbers octets (items_of x.1) x.0)
 set_begins reads octets law (Err e) g = tt
 set_begins reads octets law (Ok x) g =
@@ -69,10 +69,10 @@ set_begins reads octets law (Ok x) g =
 -- a set of numbers that was refused, by what the law says of the element
 pub set_refused : (reads : List ℕ → Result (List ℕ × ℕ) (Refusal Error) → Type 0) (octets : List ℕ) →
     ((number : ℕ) (p : Parts) (e : Error) → IsOctets p.content →
-    ListTakes {W = SetOf ℕ} (has_number number) HasItems reads same p (Err e) →
+    ListConverts {W = SetOf ℕ} (has_number number) HasItems reads same p (Err e) →
     same errors.OutOfMemory e ⊎ HasNone (ListOf number NumberByDer p)) →
     (r : Result (List ℕ × SetOf ℕ) (Refusal Error)) →
-    DerGives PassesAll (OfParts (ListTakes (has_number 17) HasItems reads same)) same octets r →
+    DerGives PassesAll (OfParts (ListConverts (has_number 17) HasItems reads same)) same octets r →
     IfErr r (RefusesNumbers octets)
 set_refused reads octets law (Ok x) g = tt
 set_refused reads octets law (Err r) (inl (fault, has, kept)) =
@@ -86,8 +86,8 @@ other_cause : (e : Error) → IsOther same e → e ≢ errors.OutOfMemory
 other_cause e (inl o) = λ m. o.1 (sym o.2 ∙ m)
 other_cause e (inr o) = o
 
-pub no_memory : {A : Type 0} (answer : Result A (Refusal Error)) → IfErr answer (HeldIn (IsOther same)) →
-    IfErr answer (HeldIn (λ e. e ≢ errors.OutOfMemory))
+pub no_memory : {A : Type 0} (answer : Result A (Refusal Error)) → IfErr answer (ErrorIs (IsOther same)) →
+    IfErr answer (ErrorIs (λ e. e ≢ errors.OutOfMemory))
 no_memory (Ok x) h = tt
 no_memory (Err (truncated n)) h = tt
 no_memory (Err (refused e)) h = other_cause e h

@@ -8,8 +8,8 @@ use Rattle.asn1_headers.specs.Error.{tells_of_io}
 use Rattle.asn1_headers.specs.Writer.{MayRefuse, IsMemoryOrLength}
 use Rattle.asn1_rs.specs.declared.asn1_types.octet_string.OctetString.{OctetString}
 use Rattle.asn1_rs.specs.Kinds.Writing.{universal_writing}
-use Rattle.asn1_rs.specs.OctetString.{octets_of}
-use Rattle.asn1_rs.specs.Optional.{IfHeld, option_writing}
+use Rattle.asn1_rs.specs.OctetString.{string_octets}
+use Rattle.asn1_rs.specs.Optional.{InSome, option_writing}
 use Rattle.asn1_rs.specs.Tagged.Writing.{explicit_under, tag_writing}
 use Rattle.asn1_rs.specs.ToDer.{HasNone, MayRefuseCount, Refuses, RefusesCount, VectorRefuses, Writing}
 use Rattle.asn1_rs.specs.ToDer.{whole_octets, whole_refuses}
@@ -17,7 +17,7 @@ use Rattle.asn1_rs_uses.specs.Labels.{Label, label_octets}
 use Rattle.asn1_rs_uses.proofs.Unrefused.{both, vector_alone, vector_refused, writing_alone}
 
 abbrev string : Writing OctetString
-string = universal_writing 4 octets_of (λ _. false) (λ _ _. ⊥)
+string = universal_writing 4 string_octets (λ _. false) (λ _ _. ⊥)
 
 -- what is written for a label that may be left out
 abbrev pub optional : Writing (Option Label)

@@ -7,22 +7,23 @@ use Rattle.asn1_headers.specs.declared.error.Err.TheVariants.{Incomplete as trun
 use Rattle.asn1_headers.specs.Error.{Converted}
 use Rattle.asn1_headers.specs.declared.error.Error.{Error}
 use Rattle.asn1_headers.specs.declared.tag.Tag.{Tag}
-use Rattle.asn1_headers.specs.Answers.{Front}
+use Rattle.asn1_headers.specs.Answers.{HasPrefix}
 use Rattle.asn1_headers.specs.Header.{tag_of}
 use Rattle.asn1_rs.specs.declared.asn1_types.tagged.parser.TaggedParser.{TaggedParser}
 use Rattle.asn1_rs.specs.Any.{parts_of}
 use Rattle.asn1_rs.specs.Laws.Tagged.{front_whole}
 use Rattle.asn1_rs.specs.Tagged.{ThenByDer}
-use Rattle.asn1_rs.specs.Tagged.Parser.{TakesWhole, HasNumber, Expects}
+use Rattle.asn1_rs.specs.Tagged.Parser.{TakesWholeContent, TagCheckGives, Expects}
 use Rattle.asn1_rs_uses.specs.Borrowed.{StringByDer}
 use Rattle.asn1_rs_uses.specs.TaggedOctets.{BeginsUnderNumber, SameError}
 
 -- a string that was read under an explicit tag of the number
 pub string_found : {K T : Type 0} (value : T → List ℕ) (number : Tag) (n : ℕ)
     (reads : List ℕ → Result (List ℕ × T) (Refusal Error) → Type 0) → number.0 ≡ n →
-    ((o left : List ℕ) (x : T) → IsOctets o → reads o (Ok (left, x)) → Front StringByDer o (value x) left)
+    ((o left : List ℕ) (x : T) → IsOctets o → reads o (Ok (left, x)) → HasPrefix StringByDer o (value x) left)
     → (octets : List ℕ) (answer : Result (List ℕ × TaggedParser K T Error) (Refusal Error)) →
-    Expects (ThenByDer (λ e f. f ≡ e) (TakesWhole reads (λ e f. f ≡ e))) (HasNumber number) (λ e f. f ≡ e) octets
+    Expects (ThenByDer (λ e f. f ≡ e) (TakesWholeContent reads (λ e f. f ≡ e))) (TagCheckGives number) (λ e f. f ≡ e)
+    octets
     answer
     → IfOk answer (λ x. BeginsUnderNumber n octets (value x.1.inner) x.0)
 string_found value number n reads is front octets (Err e) gives = tt

@@ -21,7 +21,7 @@ use Rattle.asn1_headers.specs.Laws.Message.{short_message}
 use Rattle.asn1_rs_uses.specs.declared.refusals.InClass.{InClass}
 use Rattle.asn1_rs_uses.specs.declared.refusals.NamePart.{NamePart}
 use Rattle.asn1_rs_uses.specs.Refusals.{NamesNoClass, TellsOfNoClass, SomeInNoClass, AsAnyWriting, TellsOfEmptyPart}
-use Rattle.asn1_rs_uses.specs.Refusals.{IsEmptyPart, WrittenEmptyPart, IsMemoryOrLength, SomeEmpty}
+use Rattle.asn1_rs_uses.specs.Refusals.{IsEmptyPart, WrittenEmptyPart, IsMemoryOrAnyLength, SomeEmpty}
 
 -- the header of an element of one octet, with tag number 0
 pub header_of_one : (h : Header) (class : Class) (n : ℕ) → n ≡ class_number class →
@@ -118,7 +118,7 @@ written_empty octets e (f, own, is) = absurd own.1
 
 -- nor is it written, and nothing is appended
 may_at_once : (allocates : Bool) (n : ℕ) (e : SerializeError) → MayRefuse allocates n e → tells_of_io e ≡ false →
-    IsMemoryOrLength e
+    IsMemoryOrAnyLength e
 may_at_once allocates n (serialize_errors.ASN1Error e) p h = absurd p
 may_at_once allocates n (serialize_errors.InvalidClass c) p h = absurd p
 may_at_once allocates n serialize_errors.InvalidLength p h = inr refl
@@ -137,9 +137,9 @@ pub name_unwritten : (allocates : Bool) (n : ℕ) (parts : List NamePart) (old n
     (r : Result ℕ SerializeError) →
     IsRefusedAtOnce allocates n (Either (WrittenRefusal (SomeRefuses (λ p. IsEmptyPart p.0.now) parts))
     (SomeRefuses (λ p. Either (WrittenRefusal (IsEmptyPart p.0.now)) (WrittenRefusal (IsEmptyPart p.0.now))) parts)) old
-    new r → IsErrAnd r (λ e. WrittenEmptyPart e ⊎ IsMemoryOrLength e) × (new ≡ old)
+    new r → IsErrAnd r (λ e. WrittenEmptyPart e ⊎ IsMemoryOrAnyLength e) × (new ≡ old)
 name_unwritten allocates n parts old new r (e, why, at) =
-    let telling : WrittenEmptyPart e ⊎ IsMemoryOrLength e =
+    let telling : WrittenEmptyPart e ⊎ IsMemoryOrAnyLength e =
     elim why [ inl may ↦ inr (may_at_once allocates n e may.0 may.1) | inr own ↦ inl (own_unwritten parts e own) ] in
     (rw at.refused telling, at.kept)
 

@@ -7,7 +7,7 @@ use Rattle.asn1_rs.specs.Any.{parts_of, BerElementGives}
 use Rattle.asn1_rs.specs.Any.Text.{utf8_checks}
 use Rattle.asn1_rs.specs.FieldReader.{BecomesError}
 use Rattle.asn1_rs.specs.Any.Value.{ElementValue, ElementBody}
-use Rattle.asn1_headers.specs.Answers.{Front}
+use Rattle.asn1_headers.specs.Answers.{HasPrefix}
 use Rattle.asn1_rs.specs.Grammar.{BerWord, DerWord}
 use Rattle.asn1_rs.specs.Leaf.{Leaf, LeafBody}
 use Rattle.asn1_rs.specs.OctetString.{octet_string_leaf}
@@ -32,7 +32,7 @@ utf8_string_leaf = string_leaf 12 IsUtf8
 pub record BeginsWithContents (octets content : List ℕ) : Type 0 where
   pub value : ElementValue
   pub rest : List ℕ
-  pub front : Front (BerWord ElementBody) octets value rest
+  pub front : HasPrefix (BerWord ElementBody) octets value rest
   pub contents : value.content ≡ content
 
 -- no element by BER begins the octets, and the refusal of their first fault became this error

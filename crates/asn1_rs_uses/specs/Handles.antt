@@ -10,7 +10,7 @@ use Rattle.asn1_headers.specs.declared.error.Error.{Error}
 use Rattle.asn1_headers.specs.declared.error.Error.TheVariants as errors
 use Rattle.asn1_headers.specs.Answers.{Exactly, IsOther, TellsMemory}
 use Rattle.asn1_headers.specs.Ber.{max_depth, EndsWithin}
-use Rattle.asn1_headers.specs.Error.{HeldIn}
+use Rattle.asn1_headers.specs.Error.{ErrorIs}
 use Rattle.asn1_headers.specs.Header.Reading.{ber_violation}
 use Rattle.asn1_rs.specs.declared.asn1_types.any.Any.{Any}
 use Rattle.asn1_rs.specs.Any.{parts_of, BerElementGives}
@@ -19,20 +19,22 @@ use Rattle.asn1_rs.specs.Grammar.{BerWord, DerWord, FormNumber, FormTakes, NoChe
 use Rattle.asn1_rs.specs.Grammar.Item.{ItemGrammar, IsLawfulItem}
 use Rattle.asn1_rs.specs.Integer.{IntegerBody, IntegerCheck, IntegerCheckGives, IntegerForm, IsUnsigned, UnsignedGives}
 use Rattle.asn1_rs.specs.Integer.{integer_element}
-use Rattle.asn1_rs.specs.Kinds.{ElementGrammar, IsLawfulElement, IsExactCheck, IsExactConversion, HoldingGives}
+use Rattle.asn1_rs.specs.Kinds.{ElementGrammar, IsLawfulElement, IsExactCheck, IsExactConversion, InnerGives}
 use Rattle.asn1_rs.specs.Kinds.{item_grammar}
 use Rattle.asn1_rs.specs.Laws.Integer.{integer_checks, integer_lawful}
 use Rattle.asn1_rs.specs.Laws.Integer.Unsigned.{unsigned_converts}
-use Rattle.asn1_rs.specs.Laws.Kinds.{held_takes, lawful_item, other_error}
+use Rattle.asn1_rs.specs.Laws.Kinds.{inner_takes, lawful_item, other_error}
 use Rattle.asn1_rs.specs.Laws.Readers.{all_pass, ber_violation_no_memory, ber_elements, element_exact, element_no_memory}
 use Rattle.asn1_rs.specs.Laws.Readers.{passes_all}
 use Rattle.asn1_rs.specs.Laws.Tagged.Explicit.{explicit_lawful, explicit_number, explicit_takes_class, explicit_takes}
 use Rattle.asn1_rs.specs.Laws.Tagged.Explicit.{explicit_takes_no_memory, explicit_checks}
 use Rattle.asn1_rs.specs.Laws.Tagged.Implicit.{implicit_lawful, implicit_form_body, implicit_takes}
 use Rattle.asn1_rs.specs.Laws.Tagged.Implicit.{implicit_takes_no_memory, implicit_checked}
-use Rattle.asn1_rs.specs.Tagged.Explicit.{ExplicitBody, ExplicitCheck, ExplicitForm, ExplicitTakes, ExplicitCheckGives}
+use Rattle.asn1_rs.specs.Tagged.Explicit.{ExplicitBody, ExplicitCheck, ExplicitForm, ExplicitConverts}
+use Rattle.asn1_rs.specs.Tagged.Explicit.{ExplicitCheckGives}
 use Rattle.asn1_rs.specs.Tagged.Explicit.{explicit_grammar}
-use Rattle.asn1_rs.specs.Tagged.Implicit.{ImplicitBody, ImplicitCheck, ImplicitForm, ImplicitTakes, ImplicitCheckGives}
+use Rattle.asn1_rs.specs.Tagged.Implicit.{ImplicitBody, ImplicitCheck, ImplicitForm, ImplicitConverts}
+use Rattle.asn1_rs.specs.Tagged.Implicit.{ImplicitCheckGives}
 use Rattle.asn1_rs.specs.Traits.{BerGives, OfParts, PassesAll}
 use Rattle.asn1_rs.specs.Laws.Words.{strict_ber}
 
@@ -66,14 +68,14 @@ abbrev pub HandleByDer : List ℕ → ℤ → Type 0
 HandleByDer = DerWord (ImplicitCheck 1 PlaceCheck) (ImplicitBody 2 0 1 PlaceBody)
 
 -- what the conversion of a place may answer, and that of a handle
-abbrev pub PlaceTakes : {P : Type 0} → (P → ℕ) → Any → Result P Error → Type 0
-PlaceTakes number =
-    OfParts (ExplicitTakes 2 1 number (BerGives (OfParts (UnsignedGives 1)) (λ x y. y ≡ x)) (λ x y. y ≡ x))
+abbrev pub PlaceConverts : {P : Type 0} → (P → ℕ) → Any → Result P Error → Type 0
+PlaceConverts number =
+    OfParts (ExplicitConverts 2 1 number (BerGives (OfParts (UnsignedGives 1)) (λ x y. y ≡ x)) (λ x y. y ≡ x))
 
 -- What converting an element to a handle may answer.
-abbrev pub HandleTakes : {P W T : Type 0} → (T → W) → (W → P) → (P → ℕ) → Any → Result T Error → Type 0
-HandleTakes held place number =
-    HoldingGives held (ImplicitTakes 2 0 place (record { 0 = 1 }) (PlaceTakes number) (λ x y. y ≡ x))
+abbrev pub HandleConverts : {P W T : Type 0} → (T → W) → (W → P) → (P → ℕ) → Any → Result T Error → Type 0
+HandleConverts held place number =
+    InnerGives held (ImplicitConverts 2 0 place (record { 0 = 1 }) (PlaceConverts number) (λ x y. y ≡ x))
 
 -- what the check of a handle may answer
 abbrev pub HandleCheckGives : CheckGives
@@ -139,7 +141,7 @@ reads_exact input answer octets =
 
 -- A refusal of such a reading is one of the library's.
 reads_no_memory : (input : List ℕ) (answer : Result (List ℕ × ℕ) (Refusal Error)) → Reads input answer →
-    IfErr answer (HeldIn (IsOther (λ x y. y ≡ x)))
+    IfErr answer (ErrorIs (IsOther (λ x y. y ≡ x)))
 reads_no_memory = element_no_memory (IsElement max_depth) (ElementFault max_depth) ber_violation ber_violation_no_memory
     PassesAll
     (OfParts (UnsignedGives 1)) (λ x y. y ≡ x) all_pass
@@ -154,25 +156,25 @@ not_other (inr other) = other refl
 module _ {P W T : Type 0} (held : T → W) (place : W → P) (number : P → ℕ) where
   -- The conversion under the implicit tag is exact.
   takes : (any : Any) (answer : Result W Error) → IsOctets any.content.now →
-      ImplicitTakes 2 0 place (record { 0 = 1 }) (PlaceTakes number) (λ x y. y ≡ x) any answer →
+      ImplicitConverts 2 0 place (record { 0 = 1 }) (PlaceConverts number) (λ x y. y ≡ x) any answer →
       TakesBody (ImplicitBody 2 0 1 PlaceBody) (λ w. pos (number (place w))) false (λ x y. y ≡ x) (parts_of any) answer
-  takes = implicit_takes 2 0 place (record { 0 = 1 }) (PlaceTakes number) (λ x y. y ≡ x) PlaceBody
+  takes = implicit_takes 2 0 place (record { 0 = 1 }) (PlaceConverts number) (λ x y. y ≡ x) PlaceBody
       (λ p. pos (number p)) false
       (λ any. explicit_takes 2 1 number Reads (λ x y. y ≡ x) (BerWord numbers.Body) pos false EndsWithin reads_exact
       (parts_of any))
 
   -- A refusal of that conversion is one of the library's.
   asks_no_memory : (any : Any) (e : Error) →
-      ImplicitTakes 2 0 place (record { 0 = 1 }) (PlaceTakes number) (λ x y. y ≡ x) any (Err e) →
+      ImplicitConverts 2 0 place (record { 0 = 1 }) (PlaceConverts number) (λ x y. y ≡ x) any (Err e) →
       IsOther (λ x y. y ≡ x) e
-  asks_no_memory = implicit_takes_no_memory 2 0 place (record { 0 = 1 }) (PlaceTakes number) (λ x y. y ≡ x)
+  asks_no_memory = implicit_takes_no_memory 2 0 place (record { 0 = 1 }) (PlaceConverts number) (λ x y. y ≡ x)
       (λ any. explicit_takes_no_memory 2 1 number Reads (λ x y. y ≡ x) reads_no_memory (parts_of any))
 
   -- The conversion to a handle is exact.
-  pub handle_converts : IsExactConversion (HandleTakes held place number)
+  pub handle_converts : IsExactConversion (HandleConverts held place number)
       (handle_element (λ x. number (place (held x))))
   handle_converts = record {
-    exact = held_takes held (item_grammar (handle_element (λ w. number (place w))))
-        (ImplicitTakes 2 0 place (record { 0 = 1 }) (PlaceTakes number) (λ x y. y ≡ x)) (λ x y. y ≡ x) takes;
+    exact = inner_takes held (item_grammar (handle_element (λ w. number (place w))))
+        (ImplicitConverts 2 0 place (record { 0 = 1 }) (PlaceConverts number) (λ x y. y ≡ x)) (λ x y. y ≡ x) takes;
     asks_no_memory = λ none any g. not_other (asks_no_memory any errors.OutOfMemory g);
   }

@@ -3,7 +3,7 @@ use Rattle.std.specs.Prelude.{◌≡◌, ◌⊎◌, ℕ, List, ◌++◌, map, po
 use Rattle.x690.specs.Elements.{Parts, IsDerElement}
 use Rattle.x690.specs.Joined.{NoPrefix, IsConcatenation}
 use Rattle.x690.specs.Faults.{DerElementFault}
-use Rattle.asn1_headers.specs.Answers.{Front}
+use Rattle.asn1_headers.specs.Answers.{HasPrefix}
 use Rattle.asn1_headers.specs.Header.Reading.{Refused, der_refusal}
 use Rattle.asn1_headers.specs.declared.error.Err.{Err as Refusal}
 use Rattle.asn1_headers.specs.declared.error.Err.TheVariants.{Error as refused}
@@ -35,5 +35,5 @@ pub record BeginsWithNumbers (octets numbers rest : List ℕ) : Type 0 where
 -- No element by DER begins the octets, or the element there is no set of numbers by DER. Or memory was wanted.
 abbrev pub RefusesNumbers : List ℕ → Refusal Error → Type 0
 RefusesNumbers octets r = Refused DerElementFault der_refusal octets r ⊎
-    ((p : Parts) × (rest : List ℕ) × (e : Error) × Front IsDerElement octets p rest × (r ≡ refused e) ×
+    ((p : Parts) × (rest : List ℕ) × (e : Error) × HasPrefix IsDerElement octets p rest × (r ≡ refused e) ×
     ((e ≡ errors.OutOfMemory) ⊎ HasNone (ListOf 17 NumberByDer p)))

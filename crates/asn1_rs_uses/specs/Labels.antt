@@ -8,7 +8,7 @@ use Rattle.asn1_headers.specs.Class.{class_number}
 use Rattle.asn1_headers.specs.Header.{class_of, tag_of}
 use Rattle.asn1_headers.specs.declared.error.Error.{Error}
 use Rattle.asn1_headers.specs.Writer.{MayRefuse, Wrote, WriterState}
-use Rattle.asn1_rs.specs.OctetString.{octets_of}
+use Rattle.asn1_rs.specs.OctetString.{string_octets}
 use Rattle.asn1_rs.specs.declared.asn1_types.octet_string.OctetString.{OctetString}
 use Rattle.asn1_rs.specs.declared.asn1_types.tagged.Explicit.{Explicit}
 use Rattle.asn1_rs.specs.declared.asn1_types.tagged.Implicit.{Implicit}
@@ -35,12 +35,12 @@ abbrev pub Headed : Type 0
 Headed = TaggedParser Explicit OctetString Error
 
 -- what is written under the explicit, context-specific tag of this number
-abbrev pub under_tag : ℕ → List ℕ → List ℕ
-under_tag number octets = header_octets 2 true number (length octets) ++ octets
+abbrev pub explicit_octets : ℕ → List ℕ → List ℕ
+explicit_octets number octets = header_octets 2 true number (length octets) ++ octets
 
 -- the strict encoding of an octet string
 abbrev pub string_element_octets : OctetString → List ℕ
-string_element_octets s = header_octets 0 false 4 (length (octets_of s)) ++ octets_of s
+string_element_octets s = header_octets 0 false 4 (length (string_octets s)) ++ string_octets s
 
 -- what is written for what is held, or no octets
 abbrev pub or_nothing : {T : Type 0} → (T → List ℕ) → Option T → List ℕ
@@ -49,15 +49,15 @@ or_nothing octets (Some x) = octets x
 
 -- what is written for a label that may be left out
 abbrev pub label_octets : Option Label → List ℕ
-label_octets = or_nothing (λ t. under_tag 1 (string_element_octets t.inner))
+label_octets = or_nothing (λ t. explicit_octets 1 (string_element_octets t.inner))
 
 -- what is written for one of the list
 abbrev pub general_string_octets : GeneralString → List ℕ
-general_string_octets t = header_octets 0 false 27 (length (octets_of t.inner)) ++ octets_of t.inner
+general_string_octets t = header_octets 0 false 27 (length (string_octets t.inner)) ++ string_octets t.inner
 
 -- what is written for the list under its tag
 abbrev pub labels_octets : Labels → List ℕ
-labels_octets t = under_tag 0 (in_sequence (flat_map general_string_octets t.inner.items))
+labels_octets t = explicit_octets 0 (in_sequence (flat_map general_string_octets t.inner.items))
 
 -- the class and the tag number are those of the header in hand
 abbrev pub headed_octets : Headed → List ℕ

@@ -9,7 +9,7 @@ use Rattle.asn1_headers.specs.Answers.{IsOther}
 use Rattle.asn1_rs.specs.Any.{parts_of}
 use Rattle.asn1_rs.specs.Grammar.{DerWord, NoCheck, TakesBody}
 use Rattle.asn1_rs.specs.Integer.{integer_element, IntegerBody, IntegerCheck, IsUnsigned, UnsignedGives}
-use Rattle.asn1_rs.specs.Kinds.{ElementGrammar, IsExactConversion, holding, HoldingGives}
+use Rattle.asn1_rs.specs.Kinds.{ElementGrammar, IsExactConversion, by_inner_element, InnerGives}
 use Rattle.asn1_rs.specs.Laws.Integer.Unsigned.{unsigned_converts}
 use Rattle.asn1_rs.specs.Laws.Kinds.{holding_converts}
 use Rattle.asn1_rs.specs.Tagged.Headed.{HeadedWhole}
@@ -45,11 +45,11 @@ level_number x = x.0
 
 -- a number of one octet
 abbrev pub level_element : ElementGrammar Level
-level_element = holding level_number (integer_element pos (IsUnsigned 1))
+level_element = by_inner_element level_number (integer_element pos (IsUnsigned 1))
 
 -- what the library's conversion to such a number may answer
 abbrev pub LevelConverts : Any → Result Level Error → Type 0
-LevelConverts = HoldingGives level_number (OfParts (UnsignedGives 1))
+LevelConverts = InnerGives level_number (OfParts (UnsignedGives 1))
 
 -- The conversion to a level is exact.
 pub level_converts : IsExactConversion LevelConverts level_element

@@ -70,5 +70,5 @@ AsAnyWriting (serialize_errors.InvalidClass c) = ⊥
 AsAnyWriting e = Unit {0}
 
 -- out of memory, or a length past what 64 bits hold
-abbrev pub IsMemoryOrLength : SerializeError → Type 0
-IsMemoryOrLength e = (e ≡ serialize_errors.OutOfMemory) ⊎ (e ≡ serialize_errors.InvalidLength)
+abbrev pub IsMemoryOrAnyLength : SerializeError → Type 0
+IsMemoryOrAnyLength e = (e ≡ serialize_errors.OutOfMemory) ⊎ (e ≡ serialize_errors.InvalidLength)

@@ -7,7 +7,7 @@ use Rattle.asn1_headers.specs.declared.error.Err.{Err as Refusal}
 use Rattle.asn1_headers.specs.declared.error.Err.TheVariants.{Incomplete as truncated, Error as refused}
 use Rattle.asn1_headers.specs.declared.error.Needed.TheVariants.{Size}
 use Rattle.asn1_headers.specs.declared.error.Error.{Error}
-use Rattle.asn1_headers.specs.Answers.{Front}
+use Rattle.asn1_headers.specs.Answers.{HasPrefix}
 use Rattle.asn1_rs.specs.FieldReader.{BecomesError}
 use Rattle.asn1_headers.specs.Header.Reading.{Refused, der_refusal}
 
@@ -23,7 +23,7 @@ NoElementBegins octets = (more : List ℕ) → NoPrefix IsDerElement (octets ++ 
 
 -- an element by DER begins the octets
 abbrev pub AnElementBegins : List ℕ → Type 0
-AnElementBegins octets = (p : Parts) × (rest : List ℕ) × Front IsDerElement octets p rest
+AnElementBegins octets = (p : Parts) × (rest : List ℕ) × HasPrefix IsDerElement octets p rest
 
 -- the refusal of the message's reader, as an error
 abbrev pub RefusesMessage : {T : Type 0} → (List ℕ → Result (List ℕ × T) (Refusal Error) → Type 0) → List ℕ →

@@ -1,12 +1,12 @@
 //! Values that borrow the octets that they are read from, and last as long as those.
 ghost use Rattle.std.specs.Prelude.{◌⊎◌, IfOk, IfErr};
 ghost use Rattle.asn1_rs.specs.Prelude.{Exactly, IsTruncatedIdentifier, seen};
-ghost use Rattle.asn1_rs.specs.OctetString.{slice_leaf, octet_string_leaf, octets_of};
-ghost use Rattle.asn1_rs.specs.BitString.{bit_string_leaf, bits_in};
+ghost use Rattle.asn1_rs.specs.OctetString.{slice_leaf, octet_string_leaf, string_octets};
+ghost use Rattle.asn1_rs.specs.BitString.{bit_string_leaf, bits_of_string};
 ghost use Rattle.asn1_rs.specs.Integer.Octets.{any_integer_leaf, integer_octets};
 ghost use Rattle.asn1_rs.specs.Kept.{kept_octets, sequence_leaf};
 ghost use Rattle.asn1_rs.specs.Lists.{ItemsGive, listed};
-ghost use Rattle.asn1_rs.specs.Strings.{text_of};
+ghost use Rattle.asn1_rs.specs.Strings.{string_text};
 ghost use Rattle.asn1_rs_uses.specs.Borrowed.{LeafByDer, BeginsWithContents, utf8_string_leaf};
 ghost use Rattle.asn1_rs_uses.specs.Borrowed.{RefusesElement, HasNoText};
 ghost use Rattle.asn1_rs_uses.specs.Numbers.{NoMemory};
@@ -41,7 +41,7 @@ pub fn read_octet_string<'a>(
     alloc: Global,
     octets: &'a [u8],
 ) -> ParseResult<'a, OctetString<'a>, Error>
-    ensures { Exactly IsTruncatedIdentifier (LeafByDer octet_string_leaf) octets_of NoMemory
+    ensures { Exactly IsTruncatedIdentifier (LeafByDer octet_string_leaf) string_octets NoMemory
         octets.now (seen result) }
 {
     read_der::<OctetString<'a>, Error>(alloc, octets)
@@ -52,7 +52,7 @@ pub fn read_utf8_string<'a>(
     alloc: Global,
     octets: &'a [u8],
 ) -> ParseResult<'a, Utf8String<'a>, Error>
-    ensures { Exactly IsTruncatedIdentifier (LeafByDer utf8_string_leaf) text_of NoMemory
+    ensures { Exactly IsTruncatedIdentifier (LeafByDer utf8_string_leaf) string_text NoMemory
         octets.now (seen result) }
 {
     read_der::<Utf8String<'a>, Error>(alloc, octets)
@@ -73,7 +73,7 @@ pub fn any_text<'a>(alloc: Global, octets: &'a [u8]) -> Result<&'a str, Error>
 
 /// The bit string at the front, by DER, and what follows it.
 pub fn read_bit_string<'a>(alloc: Global, octets: &'a [u8]) -> ParseResult<'a, BitString<'a>, Error>
-    ensures { Exactly IsTruncatedIdentifier (LeafByDer bit_string_leaf) bits_in NoMemory
+    ensures { Exactly IsTruncatedIdentifier (LeafByDer bit_string_leaf) bits_of_string NoMemory
         octets.now (seen result) }
 {
     read_der::<BitString<'a>, Error>(alloc, octets)

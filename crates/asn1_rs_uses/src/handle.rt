@@ -1,7 +1,8 @@
 //! A lawful type of a caller's under an implicit tag over an explicit one, which claims its laws itself.
 ghost use Rattle.std.specs.Prelude.{pos};
 ghost use Rattle.asn1_rs.specs.Prelude.{Exactly, IsTruncatedIdentifier, seen};
-ghost use Rattle.asn1_rs_uses.specs.Handles.{HandleByDer, HandleTakes, HandleCheckGives, handle_element, handle_lawful};
+ghost use Rattle.asn1_rs_uses.specs.Handles.{HandleByDer, HandleConverts, HandleCheckGives, handle_element};
+ghost use Rattle.asn1_rs_uses.specs.Handles.{handle_lawful};
 ghost use Rattle.asn1_rs_uses.specs.Handles.{handle_checked, handle_converts};
 ghost use Rattle.asn1_rs_uses.specs.Numbers.{NoMemory};
 
@@ -24,7 +25,7 @@ pub struct Handle(pub TaggedImplicit<Place, Error, 0>);
 impl<'a> FromAny<'a> for Handle {
     type Error = Error;
 
-    ghost any_gives = { HandleTakes (λ x. x.0) (λ w. w.inner) (λ p. p.inner) };
+    ghost any_gives = { HandleConverts (λ x. x.0) (λ w. w.inner) (λ p. p.inner) };
 
     fn try_from_any(alloc: Global, any: Any<'a>) -> Result<Handle, Error> {
         match TaggedImplicit::try_from_any(alloc, any) {

@@ -9,7 +9,7 @@ ghost use Rattle.asn1_rs.specs.Integer.{IntegerCheckGives, IsUnsigned};
 ghost use Rattle.asn1_rs.specs.Laws.Integer.{integer_checks, integer_lawful};
 ghost use Rattle.asn1_rs.specs.Laws.Kinds.{holding_lawful};
 ghost use Rattle.asn1_rs.specs.Tagged.{ThenByDer};
-ghost use Rattle.asn1_rs.specs.Tagged.Parser.{TakesWhole};
+ghost use Rattle.asn1_rs.specs.Tagged.Parser.{TakesWholeContent};
 ghost use Rattle.asn1_rs.specs.Traits.{DerGives};
 ghost use Rattle.asn1_rs_uses.specs.Levels.{RefusedAs, refused_as_takes, refused_as_no_memory, level_number};
 ghost use Rattle.asn1_rs_uses.specs.Levels.{level_element, LevelConverts, level_converts, LevelByDer};
@@ -101,7 +101,7 @@ impl<'a> LawfulBodyBy<'a, ElementKind, LevelError> for Level {
 pub fn levels_under_tags_are_exact()
     ensures { (input : List ℕ) (answer : Result (List ℕ × TaggedParser Explicit Level LevelError)
         (Refusal LevelError)) → IsOctets input →
-        ThenByDer (λ e refusal. refusal ≡ Octets e) (TakesWhole (DerGives IntegerCheckGives
+        ThenByDer (λ e refusal. refusal ≡ Octets e) (TakesWholeContent (DerGives IntegerCheckGives
         (RefusedAs Octets LevelConverts) (λ e refusal. refusal ≡ Octets e))
         (λ e refusal. refusal ≡ Octets e)) input answer →
         Exactly IsTruncatedIdentifier LevelByDer

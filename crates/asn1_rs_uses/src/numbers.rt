@@ -1,7 +1,7 @@
 //! Numbers by BER and by DER, with the theorems in words of numbers.
 ghost use Rattle.std.specs.Prelude.{◌≡◌, ◌≢◌, ◌<◌, ◌≤◌, ◌^◌, ◌++◌, ◌↔◌, ◌⊎◌, ℕ, ℤ, List, length, pos, IfOk, IfErr};
 ghost use Rattle.std.specs.Prelude.{IsTrue, MatchResult};
-ghost use Rattle.asn1_rs.specs.Prelude.{EndsWithin, Exactly, HeldIn, IsTruncatedIdentifier, IsMemoryOrLength, seen};
+ghost use Rattle.asn1_rs.specs.Prelude.{EndsWithin, Exactly, ErrorIs, IsTruncatedIdentifier, IsMemoryOrLength, seen};
 ghost use Rattle.x690.specs.Identifiers.{Identifier};
 ghost use Rattle.asn1_headers.specs.Answers.{RefusedBeforeEnd};
 ghost use Rattle.asn1_headers.specs.declared.error.Error.TheVariants as errors;
@@ -21,7 +21,7 @@ pub fn read_number(alloc: Global, octets: &[u8]) -> ParseResult<'_, u64, Error>
     ensures truncated { (more word rest : List ℕ) (n : ℤ) → NumberByDer word n
         → octets.now ++ more ≡ word ++ rest → length octets.now < length word
         → RefusedBeforeEnd NoMemory (IsTruncatedIdentifier octets.now) more (seen result) }
-    ensures asks_no_memory { IfErr (seen result) (HeldIn (λ e. e ≢ errors.OutOfMemory)) }
+    ensures asks_no_memory { IfErr (seen result) (ErrorIs (λ e. e ≢ errors.OutOfMemory)) }
 {
     reader_is_exact_by_der::<u64, Error>();
     u64::from_der(alloc, octets)
@@ -30,7 +30,7 @@ pub fn read_number(alloc: Global, octets: &[u8]) -> ParseResult<'_, u64, Error>
 /// The number at the front of the octets, by BER, and what follows it.
 pub fn read_number_by_ber(alloc: Global, octets: &[u8]) -> ParseResult<'_, u64, Error>
     ensures exact { Exactly EndsWithin NumberByBer pos NoMemory octets.now (seen result) }
-    ensures asks_no_memory { IfErr (seen result) (HeldIn (λ e. e ≢ errors.OutOfMemory)) }
+    ensures asks_no_memory { IfErr (seen result) (ErrorIs (λ e. e ≢ errors.OutOfMemory)) }
 {
     reader_is_exact_by_ber::<u64, Error>();
     u64::from_ber(alloc, octets)

@@ -10,7 +10,7 @@ ghost use Rattle.asn1_rs.specs.Prelude.{items_of, MayRefuse};
 ghost use Rattle.asn1_headers.specs.Writer.{GrewByABeginning};
 ghost use Rattle.asn1_rs.specs.ToDer.{RefusedAtOnce};
 ghost use Rattle.asn1_rs_uses.specs.Refusals.{AsAnyWriting, TellsOfNoClass, SomeInNoClass, octets_in_classes};
-ghost use Rattle.asn1_rs_uses.specs.Refusals.{IsEmptyPart, TellsOfEmptyPart, WrittenEmptyPart, IsMemoryOrLength};
+ghost use Rattle.asn1_rs_uses.specs.Refusals.{IsEmptyPart, TellsOfEmptyPart, WrittenEmptyPart, IsMemoryOrAnyLength};
 ghost use Rattle.asn1_rs_uses.specs.Refusals.{SomeEmpty, in_class_writing, part_writing};
 
 use asn1_rs::author::put_all;
@@ -218,7 +218,7 @@ pub fn write_name<W: DerWrite>(
     w: &mut W,
 ) -> SerializeResult<usize>
     ensures why { SomeEmpty parts.now.items →
-        IsErrAnd result (λ e. WrittenEmptyPart e ⊎ IsMemoryOrLength e) }
+        IsErrAnd result (λ e. WrittenEmptyPart e ⊎ IsMemoryOrAnyLength e) }
     ensures nothing { SomeEmpty parts.now.items →
         W.state w.new ≡ W.state w.old }
 {

@@ -4,11 +4,11 @@ ghost use Rattle.x690.specs.Integers.{unsigned_octets};
 ghost use Rattle.x690.specs.Laws.Integers.Unsigned.{unsigned_octets_content};
 ghost use Rattle.asn1_rs.specs.Integer.{IsUnsigned};
 ghost use Rattle.asn1_rs.specs.Integer.Machine.{unsigned_machine};
-ghost use Rattle.asn1_rs.specs.LeafReading.{holding_reading};
+ghost use Rattle.asn1_rs.specs.LeafReading.{inner_reading};
 ghost use Rattle.asn1_rs.specs.Laws.Integer.{integer_written};
 ghost use Rattle.asn1_rs.specs.Laws.Integer.Machine.{machine_exact, unsigned_lawful};
 ghost use Rattle.asn1_rs.specs.Laws.Kinds.{holding_written};
-ghost use Rattle.asn1_rs.specs.Laws.Leaf.{holding_exact};
+ghost use Rattle.asn1_rs.specs.Laws.Leaf.{inner_exact};
 
 use asn1_rs::author::{
     ConvertsLeaf, DerElement, ElementKind, HasKind, LeafType, TagNumber, WritesElement,
@@ -27,9 +27,9 @@ impl HasKind for SerialNumber {
 impl LeafType for SerialNumber {
     type Number = TagNumber<2>;
 
-    ghost reading = { holding_reading (λ x. x.0) ⟦<u64 as LeafType>⟧.reading };
+    ghost reading = { inner_reading (λ x. x.0) ⟦<u64 as LeafType>⟧.reading };
 
-    ghost exact = { holding_exact (λ x. x.0) _
+    ghost exact = { inner_exact (λ x. x.0) _
         (machine_exact (unsigned_machine 8) (unsigned_lawful 8)) };
 
     fn assert_leaf_valid(&self) {

@@ -2,7 +2,7 @@
 //! readers of one tag number.
 ghost use Rattle.std.specs.Prelude.{◌≡◌, IfOk, IfErr, IsOk, MatchOption};
 ghost use Rattle.asn1_rs.specs.Prelude.{seen};
-ghost use Rattle.asn1_rs.specs.OctetString.{octets_of};
+ghost use Rattle.asn1_rs.specs.OctetString.{string_octets};
 ghost use Rattle.asn1_rs_uses.specs.TaggedOctets.{BeginsUnderTag, BeginsUnderNumber, BeginsWithContentsUnder};
 ghost use Rattle.asn1_rs_uses.specs.TaggedOctets.{RefusesOctetsUnder, RefusesStringUnder};
 
@@ -19,7 +19,7 @@ fn behind_header<'a>(
     _header: Header<'_>,
     content: &'a [u8],
 ) -> ParseResult<'a, OctetString<'a>, Error>
-    ensures content { IfOk (seen result) (λ x. content.now ≡ octets_of x.1) }
+    ensures content { IfOk (seen result) (λ x. content.now ≡ string_octets x.1) }
     ensures ok { IsOk result }
 {
     Ok((&[], OctetString::new(content)))
@@ -30,7 +30,7 @@ fn with_header<'a>(
     content: &'a [u8],
     _header: Header<'a>,
 ) -> ParseResult<'a, OctetString<'a>, Error>
-    ensures content { IfOk (seen result) (λ x. content.now ≡ octets_of x.1) }
+    ensures content { IfOk (seen result) (λ x. content.now ≡ string_octets x.1) }
     ensures ok { IsOk result }
 {
     Ok((&[], OctetString::new(content)))
@@ -42,7 +42,7 @@ fn with_number<'a>(
     _tag: Tag,
     _header: Header<'a>,
 ) -> ParseResult<'a, OctetString<'a>, Error>
-    ensures content { IfOk (seen result) (λ x. content.now ≡ octets_of x.1) }
+    ensures content { IfOk (seen result) (λ x. content.now ≡ string_octets x.1) }
     ensures ok { IsOk result }
 {
     Ok((&[], OctetString::new(content)))
@@ -58,7 +58,7 @@ pub fn optional_octets<'a>(
     octets: &'a [u8],
 ) -> ParseResult<'a, Option<OctetString<'a>>, Error>
     ensures found { IfOk (seen result) (λ x. MatchOption x.1 (x.0 ≡ octets.now)
-        (λ content. BeginsUnderTag number octets.now (octets_of content) x.0)) }
+        (λ content. BeginsUnderTag number octets.now (string_octets content) x.0)) }
 {
     OptTaggedParser::tagged(number).parse_der(octets, behind_header)
 }
@@ -73,7 +73,7 @@ pub fn string_under<'a>(
     octets: &'a [u8],
 ) -> ParseResult<'a, TaggedParser<'a, Explicit, OctetString<'a>, Error>, Error>
     ensures string { IfOk (seen result)
-        (λ x. BeginsUnderNumber number octets.now (octets_of x.1.inner) x.0) }
+        (λ x. BeginsUnderNumber number octets.now (string_octets x.1.inner) x.0) }
     ensures refused { IfErr (seen result) (RefusesStringUnder number octets.now) }
 {
     reader_is_exact_by_der::<OctetString<'a>, Error>();
@@ -89,7 +89,7 @@ pub fn octets_under<'a>(
     octets: &'a [u8],
 ) -> ParseResult<'a, TaggedParser<'a, Implicit, OctetString<'a>, Error>, Error>
     ensures content { IfOk (seen result)
-        (λ x. BeginsWithContentsUnder number octets.now (octets_of x.1.inner) x.0) }
+        (λ x. BeginsWithContentsUnder number octets.now (string_octets x.1.inner) x.0) }
     ensures refused { IfErr (seen result) (RefusesOctetsUnder number octets.now) }
 {
     parse_der_tagged_implicit::<Tag, OctetString<'a>, Error>(alloc, Tag(number), octets)
@@ -105,7 +105,7 @@ pub fn octets_handed_on<'a>(
     octets: &'a [u8],
 ) -> ParseResult<'a, OctetString<'a>, Error>
     ensures content { IfOk (seen result)
-        (λ x. BeginsWithContentsUnder number octets.now (octets_of x.1) x.0) }
+        (λ x. BeginsWithContentsUnder number octets.now (string_octets x.1) x.0) }
 {
     parse_der_tagged_explicit_g(Tag(number), octets, with_header)
 }
@@ -118,7 +118,7 @@ pub fn octets_handed_under<'a>(
     octets: &'a [u8],
 ) -> ParseResult<'a, OctetString<'a>, Error>
     ensures content { IfOk (seen result)
-        (λ x. BeginsWithContentsUnder number octets.now (octets_of x.1) x.0) }
+        (λ x. BeginsWithContentsUnder number octets.now (string_octets x.1) x.0) }
 {
     parse_der_tagged_implicit_g(Tag(number), octets, with_number)
 }

@@ -1,8 +1,8 @@
 //! A lawful type of a caller's that holds a lawful value, tag and all, and hands every call on to it.
 ghost use Rattle.std.specs.Prelude.{◌≡◌, pos};
 ghost use Rattle.asn1_rs.specs.Prelude.{Exactly, IsTruncatedIdentifier, seen};
-ghost use Rattle.asn1_rs.specs.Kinds.{HoldingGives, HoldingReads};
-ghost use Rattle.asn1_rs.specs.Laws.Kinds.{held_takes, held_reads, held_no_memory};
+ghost use Rattle.asn1_rs.specs.Kinds.{InnerGives, InnerReads};
+ghost use Rattle.asn1_rs.specs.Laws.Kinds.{inner_takes, held_reads, held_no_memory};
 ghost use Rattle.asn1_rs_uses.specs.Numbers.{NoMemory};
 ghost use Rattle.asn1_rs_uses.specs.Version.{VersionByDer};
 
@@ -38,7 +38,7 @@ impl<T> Holds for Field<T> {
 impl<'a, T: FromAny<'a>> FromAny<'a> for Field<T> {
     type Error = T::Error;
 
-    ghost any_gives = { HoldingGives (λ x. x.0) T.any_gives };
+    ghost any_gives = { InnerGives (λ x. x.0) T.any_gives };
 
     fn try_from_any(alloc: Global, any: Any<'a>) -> Result<Field<T>, T::Error> {
         match T::try_from_any(alloc, any) {
@@ -49,7 +49,7 @@ impl<'a, T: FromAny<'a>> FromAny<'a> for Field<T> {
 }
 
 impl<'a, T: FromDer<'a, E>, E> FromDer<'a, E> for Field<T> {
-    ghost der_gives = { HoldingReads (λ x. x.0) T.der_gives };
+    ghost der_gives = { InnerReads (λ x. x.0) T.der_gives };
 
     fn from_der(alloc: Global, bytes: &'a [u8]) -> ParseResult<'a, Field<T>, E> {
         match T::from_der(alloc, bytes) {
@@ -68,7 +68,7 @@ impl<T: CheckDerConstraints> CheckDerConstraints for Field<T> {
 }
 
 impl<'a, T: LawfulBody<'a, E>, E: From<Error>> LawfulBodyBy<'a, HolderKind, E> for Field<T> {
-    ghost exact_by_kind = { held_takes (λ x. x.0) T.grammar T.any_gives E.from_gives T.body_exact };
+    ghost exact_by_kind = { inner_takes (λ x. x.0) T.grammar T.any_gives E.from_gives T.body_exact };
 
     ghost no_memory_by_kind = { T.body_no_memory };
 }

@@ -3,7 +3,7 @@ use Rattle.std.proofs.Common.{◌≡◌, ◌≢◌, ◌∙◌, ap, sym, subst, r
 use Rattle.std.specs.List.{concat}
 use Rattle.x690.specs.Elements.{Parts, IsDerElement}
 use Rattle.x690.specs.Joined.{NoPrefix, AreWords, AreConcatenatedWords}
-use Rattle.asn1_headers.specs.Answers.{Front}
+use Rattle.asn1_headers.specs.Answers.{HasPrefix}
 use Rattle.asn1_schema.specs.Rules.{IsStrictInside, der}
 use Rattle.asn1_schema.proofs.OneValue.{same_front, some_octets}
 use Rattle.asn1_schema.proofs.Lawful.{der_lawful}
@@ -32,7 +32,7 @@ inside_of (suc depth) p c (inr a) =
     let z : depth ≡ suc depth - 1 = omega arith in
     subst (λ (d : ℕ). AreStrict d p.content) z a
 
-module _ (depth : ℕ) (rest tail : List ℕ) (p : Parts) (f : Front IsDerElement rest p tail) where
+module _ (depth : ℕ) (rest tail : List ℕ) (p : Parts) (f : HasPrefix IsDerElement rest p tail) where
   pub strict_more : IsStrictInside depth p → AreStrict depth tail → AreStrict depth rest
   strict_more i a = (f.word ∷ a.0, ((p, (f.fits, i)), a.1), f.is ∙ ap (λ (z : List ℕ). f.word ++ z) a.2)
 

@@ -7,7 +7,7 @@ use Rattle.asn1_schema.specs.declared.tape.Item.TheVariants as items
 use Rattle.asn1_schema.specs.Tape.{Mark, mark, between, begin_mark, end_mark}
 use Rattle.asn1_schema.specs.declared.owned.Placed.{Placed}
 use Rattle.asn1_schema.specs.declared.owned.OwnedTape.{OwnedTape}
-use Rattle.asn1_schema.specs.Owned.{Appends, filled, lent, owned_marks, owned_with, placed_mark, span}
+use Rattle.asn1_schema.specs.Owned.{Appends, item_with_octets, lent, owned_marks, owned_with, placed_mark, span}
 
 -- nothing was appended
 pub appends_nothing : (tape : OwnedTape) → Appends tape tape []
@@ -29,7 +29,7 @@ appends_both old mid new ms ns a b = record {
 }
 
 -- an item with its own octets is the item
-pub filled_lent : (item : Item) → filled item (lent item) ≡ mark item
+pub filled_lent : (item : Item) → item_with_octets item (lent item) ≡ mark item
 filled_lent (items.Boolean b) = refl
 filled_lent items.Null = refl
 filled_lent (items.Integer r) = refl
@@ -55,7 +55,7 @@ span_own front own more =
 
 -- one item more
 pub item_more : (front own more : List ℕ) (items : List Placed) (p : Placed) (item : Item) → p.start ≡ length front →
-    p.len ≡ length own → own ≡ lent item → ((o : List ℕ) → filled p.shape o ≡ filled item o) →
+    p.len ≡ length own → own ≡ lent item → ((o : List ℕ) → item_with_octets p.shape o ≡ item_with_octets item o) →
     map (placed_mark ((front ++ own) ++ more)) (items ++ p ∷ []) ≡
     map (placed_mark (front ++ (own ++ more))) items ++ mark item ∷ []
 item_more front own more items p item start len is shape =
@@ -63,7 +63,7 @@ item_more front own more items p item start len is shape =
     let lies : span all p.start p.len ≡ own =
     ap (λ n. span all n p.len) start ∙ ap (span all (length front)) len ∙ span_own front own more in
     let last : placed_mark all p ≡ mark item =
-    ap (filled p.shape) (lies ∙ is) ∙ shape (lent item) ∙ filled_lent item in
+    ap (item_with_octets p.shape) (lies ∙ is) ∙ shape (lent item) ∙ filled_lent item in
     ap (λ (o : List ℕ). map (placed_mark o) (items ++ p ∷ [])) (append_assoc front own more)
     ∙ map-append (placed_mark all) items (p ∷ [])
     ∙ ap (λ (m : Mark). map (placed_mark all) items ++ m ∷ []) last

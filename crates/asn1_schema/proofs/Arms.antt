@@ -10,7 +10,7 @@ use Rattle.asn1_schema.specs.declared.schema.Kind.TheVariants as kinds
 use Rattle.asn1_schema.specs.Values.{Value, chosen}
 use Rattle.asn1_schema.specs.Grammar.{Rules, KindBody, Through, Body, Word}
 use Rattle.asn1_schema.specs.Rules.{strict}
-use Rattle.asn1_schema.specs.Sound.{is_sound, kind_told, arms_told, arms_held, leads_back}
+use Rattle.asn1_schema.specs.Sound.{is_sound, kind_unambiguous, arms_unambiguous, arms_included, leads_back}
 use Rattle.asn1_schema.proofs.Tags.{second_holds, node_told, node_order, arm_before, arm_held, held_at}
 use Rattle.asn1_schema.proofs.Strings.{AreLawfulRules}
 use Rattle.asn1_schema.proofs.Lawful.{strict_lawful}
@@ -43,8 +43,9 @@ module _ (R : Rules) (lawful : AreLawfulRules R) (depth : ℕ) (Sub : ℕ → Pa
       Through R depth Sub table (suc t) t p (chosen k v)
   unfolding Through
   arm_through table sound t node arms k a found is arm p v b =
-      let told = subst (λ (z : Kind). kind_told table node.tags z ≡ true) is (node_told table t node sound found) in
-      let held = second_holds (arms_told table arms.items) (arms_held table node.tags arms.items) told in
+      let told =
+      subst (λ (z : Kind). kind_unambiguous table node.tags z ≡ true) is (node_told table t node sound found) in
+      let held = second_holds (arms_unambiguous table arms.items) (arms_included table node.tags arms.items) told in
       let order = subst (λ (z : Kind). leads_back t z ≡ true) is (node_order table t node sound found) in
       let before : a < t = arm_before t arms.items k a order arm in
       record {

@@ -7,7 +7,7 @@ use Rattle.asn1_schema.specs.declared.schema.Node.{Node}
 use Rattle.asn1_schema.specs.declared.schema.TypeTag.{TypeTag}
 use Rattle.asn1_schema.specs.declared.schema.Kind.{Kind}
 use Rattle.asn1_schema.specs.declared.schema.Kind.TheVariants as kinds
-use Rattle.asn1_schema.specs.Build.{universal, IsAdded, Puts, IsOf, IsLike, IsTagged, IsUnbounded, IsRetagged, IsUnder, IsDefined, PutsOpen, Tells, AreTagsOf}
+use Rattle.asn1_schema.specs.Build.{universal, IsAdded, Puts, IsOf, IsLike, IsTagged, IsUnbounded, IsRetagged, IsPutUnderTag, IsDefined, PutsOpen, Decides, AreTagsOf}
 
 -- where the place and the types are as they should be
 pub put_added : {E : Type 0} (r : Result ℕ E) (old new : List Node) (node : Node) (P : Node → Type 0) →
@@ -54,7 +54,7 @@ bounds_retagged of inner was l u t place is same =
 -- the type was put behind the others under the tag
 pub is_under : {E : Type 0} (r : Result ℕ E) (old mid new : List Node) (was : Node) (tag : TypeTag) (of : ℕ) (kind : Kind) →
     slice_get old of ≡ Some was → IsRetagged of (length mid - 1) was.kind kind →
-    Puts mid new (IsOf tag kind) r → IfOk r (λ place. IsUnder old new place tag of)
+    Puts mid new (IsOf tag kind) r → IfOk r (λ place. IsPutUnderTag old new place tag of)
 is_under (Ok place) old mid new was tag of kind known same a = record {
   was = was;
   node = a.node;
@@ -69,7 +69,7 @@ is_under (Ok place) old mid new was tag of kind known same a = record {
 is_under (Err e) old mid new was tag of kind known same a = tt
 
 -- where the last type stands
-pub last_place : (old new : List Node) (place : ℕ) (tag : TypeTag) (of : ℕ) → IsUnder old new place tag of →
+pub last_place : (old new : List Node) (place : ℕ) (tag : TypeTag) (of : ℕ) → IsPutUnderTag old new place tag of →
     place ≡ length new - 1
 last_place old new place tag of a =
     let size = ap (λ (xs : List Node). length xs) a.all in
@@ -80,7 +80,7 @@ last_place old new place tag of a =
 -- a type behind one of unknown elements
 pub put_open : {E : Type 0} (r : Result ℕ E) (old mid new : List Node) (unknown : ℕ) (ts : Tags) (told : List ℕ)
     (P : ℕ → Node → Type 0) → AreTagsOf old told ts → IsAdded old mid unknown (λ node. (node.kind ≡ kinds.Any) ×
-    Tells (λ id. not (has_tag ts id || is_tag_of id (universal 0))) node.tags) → Puts mid new (P unknown) r →
+    Decides (λ id. not (has_tag ts id || is_tag_of id (universal 0))) node.tags) → Puts mid new (P unknown) r →
     PutsOpen old new told P r
 put_open (Ok place) old mid new unknown ts told P are first a = record {
   unknown = first.node;

@@ -11,7 +11,7 @@ use Rattle.asn1_schema.specs.declared.schema.Tags.TheVariants as tags
 use Rattle.asn1_schema.specs.declared.schema.Node.{Node}
 use Rattle.asn1_schema.specs.declared.parts.Part.{Part}
 use Rattle.asn1_schema.specs.Grammar.{has_tag, is_tag_of}
-use Rattle.asn1_schema.specs.Build.{IsTagged, Tells, has_tag_at, has_tag_of, may_be_omitted, last_places}
+use Rattle.asn1_schema.specs.Build.{IsTagged, Decides, has_tag_at, has_tag_of, may_be_omitted, last_places}
 
 or_more : (a b c : Bool) → ((a || b) || c) ≡ (a || (b || c))
 or_more true b c = refl
@@ -57,7 +57,7 @@ no_part_yet table (p ∷ ps) ts none id = by_all (list_all may_be_omitted (p ∷
     by_all false = refl
 
 part_more : (table : List Node) (p : Part) (left all : List Part) (ts us : Tags) → LastTags table (p ∷ left) all ts →
-    Tells (λ id. may_be_omitted p && (has_tag ts id || has_tag_at table id p.of)) us → LastTags table left all us
+    Decides (λ id. may_be_omitted p && (has_tag ts id || has_tag_at table id p.of)) us → LastTags table left all us
 part_more table p left all ts us so more id =
     by_part (may_be_omitted p) (list_all may_be_omitted left) (all_last left) (has_tag us id) (more id) (so id)
   where
@@ -77,7 +77,7 @@ part_more table p left all ts us so more id =
 
 pub one_part_more : (table : List Node) (all : List Part) (i : ℕ) (d : Part) (ts us : Tags) → i < length all →
     LastTags table (drop i all) all ts →
-    Tells (λ id. may_be_omitted (get_or all i d) && (has_tag ts id || has_tag_at table id (get_or all i d).of)) us →
+    Decides (λ id. may_be_omitted (get_or all i d) && (has_tag ts id || has_tag_at table id (get_or all i d).of)) us →
     LastTags table (drop (i + 1) all) all us
 one_part_more table all i d ts us within so more = part_more table (get_or all i d) (drop (i + 1) all) all ts us
     (subst (λ (ps : List Part). LastTags table ps all ts) (drop_more all i d within) so) more
@@ -88,7 +88,7 @@ one_tag_has tag (tags.Among ts) is id = ap (λ (xs : List TypeTag). list_any (is
 one_tag_has tag (tags.AllBut ts) is id = absurd is
 
 pub unknown_tags : (ts end us vs : Tags) (tag other : TypeTag) → IsTagged tag end → tag ≡ other →
-    Tells (λ id. has_tag ts id || has_tag end id) us → Tells (λ id. not (has_tag us id)) vs →
-    Tells (λ id. not (has_tag ts id || is_tag_of id other)) vs
+    Decides (λ id. has_tag ts id || has_tag end id) us → Decides (λ id. not (has_tag us id)) vs →
+    Decides (λ id. not (has_tag ts id || is_tag_of id other)) vs
 unknown_tags ts end us vs tag other is same both none id = none id ∙ (ap not (both id)
     ∙ ap (λ (b : Bool). not (has_tag ts id || b)) (one_tag_has tag end is id ∙ ap (is_tag_of id) same))

@@ -4,7 +4,7 @@ use Rattle.std.specs.Prelude.{map}
 use Rattle.std.proofs.lemmas.List.{length-map, take-map, drop-map}
 use Rattle.std.proofs.Common.{take, drop}
 use Rattle.std.proofs.Math.Seq.{drop-append-add, take-append_seam}
-use Rattle.asn1_schema.specs.Values.{Leaf, bits, count}
+use Rattle.asn1_schema.specs.Values.{LeafValue, bits, count}
 use Rattle.asn1_schema.specs.Counting.{one_more, values_from}
 use Rattle.asn1_schema.specs.Tape.{Kept, KeptRow, kept_leaf, kept_string, kept_bits, kept_row, kept_chosen, kept_none, kept_absent, kept_more, string}
 use Rattle.asn1_schema.specs.declared.tape.Item.{Item}
@@ -46,7 +46,8 @@ item_within v arms (suc within) m ms e =
 -- what neither holds others nor ends them is a value, but for a field that is left out
 pub leaf_of : (i : Item) → ((n : ℕ) → i ≡ items.Begin n → ⊥) → ((n : ℕ) → i ≡ items.End n → ⊥) →
     (i ≡ items.Absent → ⊥) → ((n : ℕ) → i ≡ items.Arm n → ⊥) → ((n : ℕ) → i ≡ items.ArmEnd n → ⊥) →
-    ((n : ℕ) → i ≡ items.Pieces n → ⊥) → ((n : ℕ) → i ≡ items.PiecesEnd n → ⊥) → (l : Leaf) × (mark i ≡ leaf_mark l)
+    ((n : ℕ) → i ≡ items.Pieces n → ⊥) → ((n : ℕ) → i ≡ items.PiecesEnd n → ⊥) → (l : LeafValue) ×
+    (mark i ≡ leaf_mark l)
 leaf_of (items.Begin n) a b c d e f g = absurd (a n refl)
 leaf_of (items.End n) a b c d e f g = absurd (b n refl)
 leaf_of items.Absent a b c d e f g = absurd (c refl)
@@ -63,7 +64,7 @@ module _ (v arms within : ℕ) (i : Item) (none : within ≡ 0) where
   next_is m ms e = ap (λ (w : ℕ). v + values_from arms w (mark i ∷ ms)) none
       ∙ ap (λ (n : Mark). v + values_from arms 0 (n ∷ ms)) e
 
-  pub leaf_next : (l : Leaf) (ms : List Mark) → mark i ≡ leaf_mark l →
+  pub leaf_next : (l : LeafValue) (ms : List Mark) → mark i ≡ leaf_mark l →
       v + values_from arms within (mark i ∷ ms) ≡ v + one_more arms (values_from arms 0 ms)
   leaf_next l ms e = next_is (leaf_mark l) ms e
 

@@ -10,8 +10,8 @@ use Rattle.asn1_schema.specs.declared.schema.Node.{Node}
 use Rattle.asn1_schema.specs.declared.tape.Item.{Item}
 use Rattle.asn1_schema.specs.Values.{Value}
 use Rattle.asn1_schema.specs.Tape.{marks, value_of, tape_of}
-use Rattle.asn1_schema.specs.Reading.{rules_of, IsWordOf, BeginsWord, ReadsFront, PutsFront, HasNoPrefix}
-use Rattle.asn1_schema.specs.Decoding.{HasNoWord, Decodes, DecodesWhole, IsFollowed, EndsWithin, TellsMissing}
+use Rattle.asn1_schema.specs.Reading.{rules_of, IsWordOf, BeginsWord, ReadsPrefix, PutsPrefix, HasNoPrefix}
+use Rattle.asn1_schema.specs.Decoding.{HasNoWord, Decodes, DecodesWhole, IsFollowed, IsTruncatedByCoding, TellsMissing}
 use Rattle.asn1_schema.proofs.StrictIsBer.{der_deeper, ber_deeper}
 use Rattle.asn1_schema.proofs.Taken.{refused_last, lawful_of}
 
@@ -19,7 +19,7 @@ use Rattle.asn1_schema.proofs.Taken.{refused_last, lawful_of}
 module _ (e : Coding) (table : List Node) (depth t : ℕ) (octets : List ℕ) where
   -- a value is put on a tape that was empty
   pub decoded : (old new : List Item) (rest : List ℕ) → old ≡ [] →
-      PutsFront (BeginsWord e table depth t octets) old new rest → Decodes (IsWordOf e table depth t) octets rest new
+      PutsPrefix (BeginsWord e table depth t octets) old new rest → Decodes (IsWordOf e table depth t) octets rest new
   decoded old new rest empty puts = record {
     kept = puts.kept;
     front = record { word = puts.holds.word; fits = puts.holds.says; is = puts.holds.is };
@@ -30,7 +30,7 @@ module _ (e : Coding) (table : List Node) (depth t : ℕ) (octets : List ℕ) wh
   pub none_decoded : HasNoPrefix (BeginsWord e table depth t octets) → NoPrefix (IsWordOf e table depth t) octets
   none_decoded none = λ word rest v begins w. none v rest (record { word = word; says = w; is = begins })
 
-  pub not_decoded : (old new : List Item) (fault : Fault) → ReadsFront (BeginsWord e table depth t octets) old new (Err fault) →
+  pub not_decoded : (old new : List Item) (fault : Fault) → ReadsPrefix (BeginsWord e table depth t octets) old new (Err fault) →
       fault ≢ faults.Memory → NoPrefix (IsWordOf e table depth t) octets
   not_decoded old new faults.Memory a some = absurd (some refl)
   not_decoded old new faults.Refused a some = none_decoded a
@@ -42,17 +42,18 @@ module _ (e : Coding) (table : List Node) (depth t : ℕ) (octets : List ℕ) wh
 
   -- a refusal is final
   pub refused_for_good : NoPrefix (IsWordOf e table depth t) octets →
-      TellsMissing (rules_of e).ElementOf (EndsWithin e octets) octets None →
-      HasNoWord (IsWordOf e table depth t) (EndsWithin e octets) octets
+      TellsMissing (rules_of e).ElementOf (IsTruncatedByCoding e octets) octets None →
+      HasNoWord (IsWordOf e table depth t) (IsTruncatedByCoding e octets) octets
   refused_for_good none tells = record { none = none; lasting = by_front tells }
     where
-      by_front : TellsMissing (rules_of e).ElementOf (EndsWithin e octets) octets None → (EndsWithin e octets → ⊥) →
+      by_front : TellsMissing (rules_of e).ElementOf (IsTruncatedByCoding e octets) octets None →
+          (IsTruncatedByCoding e octets → ⊥) →
           (others : List ℕ) → NoPrefix (IsWordOf e table depth t) (octets ++ others)
       by_front (inl whole) ends others = refused_last (rules_of e) (lawful_of e) table depth t octets others none whole
       by_front (inr never) ends others = no_element_no_word others (never ends others)
 
   -- so few octets do not suffice
-  pub still_truncated : (n : ℕ) → TellsMissing (rules_of e).ElementOf (EndsWithin e octets) octets (Some n) →
+  pub still_truncated : (n : ℕ) → TellsMissing (rules_of e).ElementOf (IsTruncatedByCoding e octets) octets (Some n) →
       (others : List ℕ) → length others < n → NoPrefix (IsWordOf e table depth t) (octets ++ others)
   still_truncated n lacks others few = no_element_no_word others (lacks others few)
 
@@ -79,7 +80,7 @@ word_deeper (codings.Ber max) table d f t l o v a = ber_deeper table max d f t l
 
 -- what is refused is refused to each depth
 pub no_depth_decodes : (e : Coding) (table : List Node) (depth t : ℕ) (octets : List ℕ) (old new : List Item) →
-    ((d : ℕ) → depth ≤ d → ReadsFront (BeginsWord e table d t octets) old new (Err faults.Refused)) → (d : ℕ) →
+    ((d : ℕ) → depth ≤ d → ReadsPrefix (BeginsWord e table d t octets) old new (Err faults.Refused)) → (d : ℕ) →
     NoPrefix (IsWordOf e table d t) octets
 no_depth_decodes e table depth t octets old new none d = λ word rest v is w.
     none_decoded e table (d + depth) t octets (none (d + depth) (omega arith)) word rest v is

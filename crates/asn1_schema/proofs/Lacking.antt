@@ -3,7 +3,7 @@ use Rattle.std.proofs.Common.{◌≡◌, ◌∙◌, sym, subst, refl, inr, ℕ, 
 use Rattle.std.specs.Prelude.{Option, Some, None, IfSome, IfNone}
 use Rattle.x690.specs.Elements.{Parts, IsDerElement, BeginsWithElement}
 use Rattle.x690.specs.Identifiers.{IsTruncatedIdentifier}
-use Rattle.asn1_headers.specs.Answers.{Front}
+use Rattle.asn1_headers.specs.Answers.{HasPrefix}
 use Rattle.x690.specs.Nested.{IsElement, ElementFault, EndsInIdentifier}
 use Rattle.x690.specs.Joined.{NoPrefix}
 use Rattle.x690.specs.Faults.{Violation}
@@ -70,5 +70,5 @@ none_to_no_depth max octets z = inr (λ whole more. subst (λ (m : ℕ). NoPrefi
 
 -- an element begins the octets
 pub whole_element : (ElementOf : List ℕ → Parts → Type 0) (octets rest : List ℕ) (p : Parts) →
-    Front ElementOf octets p rest → BeginsWithElement ElementOf octets
+    HasPrefix ElementOf octets p rest → BeginsWithElement ElementOf octets
 whole_element ElementOf octets rest p front = (front.word, rest, p, front.fits, front.is)

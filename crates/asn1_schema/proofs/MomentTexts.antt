@@ -15,7 +15,7 @@ use Rattle.x690.specs.declared.times.TimeZone.TheVariants.{Undefined, Z}
 use Rattle.asn1_schema.specs.declared.schema.TimeKind.TheVariants as times
 use Rattle.asn1_schema.specs.declared.joined.Joined.{Joined}
 use Rattle.asn1_schema.specs.Joined.{said}
-use Rattle.asn1_schema.specs.Rules.{IsTime, IsFraction, IsZone}
+use Rattle.asn1_schema.specs.Rules.{IsTime, IsFraction, SaysAnyZone}
 use Rattle.asn1_schema.specs.Moments.{Then, ThenHour, IsRest, IsZoneText, IsLocal, IsFractionEnd, IsMinuteEnd, IsUtcEnd, IsMomentText, IsDigitsBefore, IsFractionBefore}
 
 -- two digits, and what follows them
@@ -139,7 +139,7 @@ zone_of o (inr a) = elim a.4.4 [
       (b.3 ∙ ap (λ (x : List ℕ). digits 2 b.0 ++ x) b.4)
 ]
 
-local_text : (m : Moment) (o : List ℕ) → IsZone m o → IsLocal o
+local_text : (m : Moment) (o : List ℕ) → SaysAnyZone m o → IsLocal o
 local_text m o (inl (inl a)) = inl a.0
 local_text m o (inl (inr a)) = inr (zone_text o m.zone a true)
 local_text m o (inr a) = inr (inr (a.0, digits 2 a.1, a.2, a.4, (a.1, [], omega (arith, a.3), refl, inl (refl, refl))))
@@ -221,7 +221,7 @@ utc_is o a =
 
 minute_end : (m : Moment) (minutes fraction zone : List ℕ) → InRange m →
     (minutes ≡ []) ⊎ ((minutes ≡ digits 2 m.minute) ⊎ (minutes ≡ digits 2 m.minute ++ digits 2 m.second)) →
-    IsFraction fraction → IsZone m zone → IsMinuteEnd (minutes ++ fraction ++ zone)
+    IsFraction fraction → SaysAnyZone m zone → IsMinuteEnd (minutes ++ fraction ++ zone)
 minute_end m minutes fraction zone r (inl e) f z =
     inl (fraction, zone, f, ap (λ (x : List ℕ). x ++ fraction ++ zone) e, local_text m zone z)
 minute_end m minutes fraction zone r (inr (inl e)) f z = inr (

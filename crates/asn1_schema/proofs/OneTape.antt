@@ -2,7 +2,7 @@
 use Rattle.std.proofs.Common.{◌≡◌, ◌≢◌, ◌∙◌, ap, sym, subst, refl, ℕ, suc, ◌+◌, ◌<◌, ◌≤◌, inl, inr, Bool, List, [], ◌∷◌, ◌++◌, append_assoc, length, arith}
 use Rattle.std.specs.Prelude.{◌⊎◌, map}
 use Rattle.std.proofs.Common.{append-nil}
-use Rattle.asn1_schema.specs.Values.{Leaf, bits}
+use Rattle.asn1_schema.specs.Values.{LeafValue, bits}
 use Rattle.asn1_schema.specs.Tape.{Kept, KeptRow, Sort, of_octets, of_text, of_time, string, pieces, kept_leaf, kept_string, kept_bits, kept_row, kept_chosen, kept_none, kept_absent, kept_more}
 use Rattle.asn1_schema.specs.Tape.{Mark, leaf_mark, begin_mark, end_mark, absent_mark, arm_mark, arm_end_mark, pieces_mark, pieces_end_mark, between, tape_of, tapes_of}
 
@@ -43,7 +43,7 @@ same_bits b c e = cc
 same_octets : (s : Sort) (o u : List ℕ) → leaf_mark (string s o) ≡ leaf_mark (string s u) → o ≡ u
 same_octets s o u e = (same_string s s o u e).1
 
-one_pieces : {A : Type 0} (make : A → Leaf) → ((x y : A) → leaf_mark (make x) ≡ leaf_mark (make y) → x ≡ y) →
+one_pieces : {A : Type 0} (make : A → LeafValue) → ((x y : A) → leaf_mark (make x) ≡ leaf_mark (make y) → x ≡ y) →
     (ls ms : List A) (n m : ℕ) (r s : List Mark) → map (λ x. leaf_mark (make x)) ls ++ pieces_end_mark n ∷ r ≡
     map (λ x. leaf_mark (make x)) ms ++ pieces_end_mark m ∷ s → (ls ≡ ms) × (r ≡ s)
 one_pieces make inj [] [] n m r s e = (refl, cc)
@@ -59,7 +59,7 @@ one_pieces make inj (x ∷ ls) (y ∷ ms) n m r s e =
     (cc, u.1)
 
 -- what stands behind pieces, and the first piece in front
-all_pieces : {A : Type 0} (make : A → Leaf) (x : A) (xs : List A) (r : List Mark) → pieces make x xs ++ r ≡
+all_pieces : {A : Type 0} (make : A → LeafValue) (x : A) (xs : List A) (r : List Mark) → pieces make x xs ++ r ≡
     pieces_mark (suc (length xs)) ∷ (leaf_mark (make x) ∷ (map (λ y. leaf_mark (make y)) xs ++
     pieces_end_mark (suc (length xs)) ∷ r))
 all_pieces make x xs r = behind (pieces_mark (suc (length xs))) (pieces_end_mark (suc (length xs)))
@@ -176,15 +176,15 @@ closes_append : (x y : List Mark) → closes (x ++ y) ≡ closes x + closes y
 closes_append [] y = omega arith
 closes_append (m ∷ x) y = let e = closes_append x y in omega (arith, e)
 
-no_opens : {A : Type 0} (make : A → Leaf) (ls : List A) → opens (map (λ x. leaf_mark (make x)) ls) ≡ 0
+no_opens : {A : Type 0} (make : A → LeafValue) (ls : List A) → opens (map (λ x. leaf_mark (make x)) ls) ≡ 0
 no_opens make [] = refl
 no_opens make (l ∷ ls) = let e = no_opens make ls in omega (arith, e)
 
-no_closes : {A : Type 0} (make : A → Leaf) (ls : List A) → closes (map (λ x. leaf_mark (make x)) ls) ≡ 0
+no_closes : {A : Type 0} (make : A → LeafValue) (ls : List A) → closes (map (λ x. leaf_mark (make x)) ls) ≡ 0
 no_closes make [] = refl
 no_closes make (l ∷ ls) = let e = no_closes make ls in omega (arith, e)
 
-pieces_balanced : {A : Type 0} (make : A → Leaf) (x : A) (xs : List A) → opens (pieces make x xs) ≡ closes (pieces make x xs)
+pieces_balanced : {A : Type 0} (make : A → LeafValue) (x : A) (xs : List A) → opens (pieces make x xs) ≡ closes (pieces make x xs)
 pieces_balanced make x xs =
     let a = opens_append (map (λ y. leaf_mark (make y)) xs) (pieces_end_mark (suc (length xs)) ∷ []) in
     let b = closes_append (map (λ y. leaf_mark (make y)) xs) (pieces_end_mark (suc (length xs)) ∷ []) in
@@ -249,14 +249,14 @@ before_last x last c d some q = elim (truncated_two x (last ∷ []) c d q) [
         nothing_left (m ∷ e) d h = absurd (cc)
 
 -- of what stands in front of the leaves of a string nothing closes more than is opened
-pieces_front : {A : Type 0} (make : A → Leaf) (ls : List A) (c e : List Mark) →
+pieces_front : {A : Type 0} (make : A → LeafValue) (ls : List A) (c e : List Mark) →
     map (λ x. leaf_mark (make x)) ls ≡ c ++ e → closes c ≤ opens c
 pieces_front make ls c e q =
     let a = ap closes q ∙ closes_append c e in
     let z = no_closes make ls in
     omega (arith, a, z)
 
-pieces_open : {A : Type 0} (make : A → Leaf) (x : A) (xs : List A) (m : Mark) (c d : List Mark) → d ≢ [] →
+pieces_open : {A : Type 0} (make : A → LeafValue) (x : A) (xs : List A) (m : Mark) (c d : List Mark) → d ≢ [] →
     pieces make x xs ≡ (m ∷ c) ++ d → closes (m ∷ c) < opens (m ∷ c)
 pieces_open make x xs m c d more q =
     let first : pieces_mark (suc (length xs)) ≡ m = cc in

@@ -18,7 +18,7 @@ use Rattle.asn1_schema.specs.declared.schema.Kind.TheVariants as kinds
 use Rattle.asn1_schema.specs.Values.{boolean, integer, enumerated, bits, octets, text, time}
 use Rattle.asn1_schema.specs.Values.{Value, Values, leaf, row, chosen, none, absent, more}
 use Rattle.asn1_schema.specs.Grammar.{Rules, Says, Begins, has_tag, trimmed, of_octets, of_bits, AreEach, AreItems, AreUnknown, LeftOut, IsThere, AreFields, Takes, HasMember, AreOthers, AreMembers, AreSet, KindBody, Through, Body, Word}
-use Rattle.asn1_schema.specs.Sound.{node_at, apart_from, field_told, may_be_left_out, apart_from_next, apart_from_unknown, arms_told, arms_held, fields_told, kind_told, is_sound, is_single, HasTagAt}
+use Rattle.asn1_schema.specs.Sound.{node_at, apart_from, field_unambiguous, may_be_left_out, apart_from_next, apart_from_unknown, arms_unambiguous, arms_included, fields_unambiguous, kind_unambiguous, is_sound, is_single, HasTagAt}
 use Rattle.asn1_schema.proofs.Tags.{first_holds, second_holds, of_optional, apart_at, one_arm, node_told}
 use Rattle.asn1_schema.proofs.TakesParts.{each_map, each_put, each_left, one_taken}
 use Rattle.asn1_schema.proofs.Strings.{AreLawfulRules, HasOneValue, says_front, string_one, one_octets, one_bits}
@@ -194,7 +194,8 @@ module _ (R : Rules) (lawful : AreLawfulRules R) where
         apart_from_next false table unknown ts fs) apart)) x rest p e is h
 
     -- a field is not both there and left out
-    pub not_two : (unknown : Option ℕ) (f : Field) (fs : List Field) → fields_told false table unknown (f ∷ fs) ≡ true →
+    pub not_two : (unknown : Option ℕ) (f : Field) (fs : List Field) →
+        fields_unambiguous false table unknown (f ∷ fs) ≡ true →
         (o : List ℕ) (vs ws : Values) → IsThere R (Sub f.of) f.presence o vs (AreFields R Sub unknown fs) →
         LeftOut R (Sub f.of) f.presence ws (AreFields R Sub unknown fs o) → ⊥
     not_two unknown f fs told o vs ws a b =
@@ -202,13 +203,13 @@ module _ (R : Rules) (lawful : AreLawfulRules R) where
         let begins = c.2 in
         let h = tag f.of begins.says.parts c.0 begins.says.value in
         let d = left_rest (Sub f.of) f.presence (AreFields R Sub unknown fs o) ws b in
-        let apart : field_told false table unknown (node_at table f.of) fs ≡ true =
-        of_optional (may_be_left_out f.presence) (field_told false table unknown (node_at table f.of) fs)
+        let apart : field_unambiguous false table unknown (node_at table f.of) fs ≡ true =
+        of_optional (may_be_left_out f.presence) (field_unambiguous false table unknown (node_at table f.of) fs)
         (left_may (Sub f.of) f.presence (AreFields R Sub unknown fs o) ws b)
-        (first_holds (not (may_be_left_out f.presence) || field_told false table unknown (node_at table f.of) fs)
-        (fields_told false table unknown fs) told) in
+        (first_holds (not (may_be_left_out f.presence) || field_unambiguous false table unknown (node_at table f.of) fs)
+        (fields_unambiguous false table unknown fs) told) in
         no_next h.node.tags unknown fs o d.0 d.1
-        (subst (λ (z : Option Node). field_told false table unknown z fs ≡ true) h.found apart)
+        (subst (λ (z : Option Node). field_unambiguous false table unknown z fs ≡ true) h.found apart)
         begins.word c.1 begins.says.parts begins.says.element begins.is h.tagged
 
     unknown_one : ((t : ℕ) → HasOneValue (Sub t)) → (unknown : Option ℕ) (o : List ℕ) (vs ws : Values) →
@@ -217,19 +218,20 @@ module _ (R : Rules) (lawful : AreLawfulRules R) where
     unknown_one one (Some t) o vs ws a b = items_one (Sub t) (one t) _ o vs ws a b
 
     pub fields_one : ((t : ℕ) → HasOneValue (Sub t)) → (unknown : Option ℕ) (fs : List Field) →
-        fields_told false table unknown fs ≡ true → (o : List ℕ) (vs ws : Values) → AreFields R Sub unknown fs o vs →
+        fields_unambiguous false table unknown fs ≡ true → (o : List ℕ) (vs ws : Values) →
+        AreFields R Sub unknown fs o vs →
         AreFields R Sub unknown fs o ws → vs ≡ ws
     fields_one one unknown [] told o vs ws a b = unknown_one one unknown o vs ws a b
     fields_one one unknown (f ∷ fs) told o vs ws (inl a) (inl b) =
         there_one (Sub f.of) (one f.of) f.presence o (AreFields R Sub unknown fs)
         (λ r xs ys. fields_one one unknown fs (second_holds (not (may_be_left_out f.presence) ||
-        field_told false table unknown (node_at table f.of) fs) (fields_told false table unknown fs) told) r xs ys) vs ws a b
+        field_unambiguous false table unknown (node_at table f.of) fs) (fields_unambiguous false table unknown fs) told) r xs ys) vs ws a b
     fields_one one unknown (f ∷ fs) told o vs ws (inl a) (inr b) = absurd (not_two unknown f fs told o vs ws a b)
     fields_one one unknown (f ∷ fs) told o vs ws (inr a) (inl b) = absurd (not_two unknown f fs told o ws vs b a)
     fields_one one unknown (f ∷ fs) told o vs ws (inr a) (inr b) =
         left_one (Sub f.of) (one f.of) f.presence (AreFields R Sub unknown fs o)
         (λ xs ys. fields_one one unknown fs (second_holds (not (may_be_left_out f.presence) ||
-        field_told false table unknown (node_at table f.of) fs) (fields_told false table unknown fs) told) o xs ys) vs ws a b
+        field_unambiguous false table unknown (node_at table f.of) fs) (fields_unambiguous false table unknown fs) told) o xs ys) vs ws a b
 
     -- Sets: no element of these fields, or of none, has one of these tags.
     no_other : (ts : Tags) (unknown : Option ℕ) (es : List Parts) (vs : Values) → AreOthers Sub unknown es vs →
@@ -260,7 +262,7 @@ module _ (R : Rules) (lawful : AreLawfulRules R) where
         (apart_from_next true table unknown ts fs) apart)
 
     -- where an element has a tag of a field, none of those of the fields behind it has one
-    pub none_alike : (unknown : Option ℕ) (f : Field) (fs : List Field) → fields_told true table unknown (f ∷ fs) ≡ true →
+    pub none_alike : (unknown : Option ℕ) (f : Field) (fs : List Field) → fields_unambiguous true table unknown (f ∷ fs) ≡ true →
         (e : Parts) → HasTagAt table f.of e.id → (es : List Parts) (vs : Values) → AreMembers R Sub unknown fs es vs →
         Each (λ p. HasTagAt table f.of p.id → ⊥) es
     none_alike unknown f fs told e h es vs a =
@@ -269,8 +271,9 @@ module _ (R : Rules) (lawful : AreLawfulRules R) where
         let same : g.node ≡ h.node = (let x = g.found in let y = h.found in cc) in
         n (subst (λ (z : Node). has_tag z.tags p.id ≡ true) same g.tagged)) es
         (no_member h.node.tags unknown fs es vs a
-        (subst (λ (z : Option Node). field_told true table unknown z fs ≡ true) h.found
-        (first_holds (field_told true table unknown (node_at table f.of) fs) (fields_told true table unknown fs) told)))
+        (subst (λ (z : Option Node). field_unambiguous true table unknown z fs ≡ true) h.found
+        (first_holds (field_unambiguous true table unknown (node_at table f.of) fs)
+        (fields_unambiguous true table unknown fs) told)))
 
     others_one : ((t : ℕ) → HasOneValue (Sub t)) → (unknown : Option ℕ) (es : List Parts) (vs ws : Values) →
         AreOthers Sub unknown es vs → AreOthers Sub unknown es ws → vs ≡ ws
@@ -309,7 +312,7 @@ module _ (R : Rules) (lawful : AreLawfulRules R) where
         cc
 
     -- a field of a set is not both there and left out
-    not_both_ways : (unknown : Option ℕ) (f : Field) (fs : List Field) → fields_told true table unknown (f ∷ fs) ≡ true →
+    not_both_ways : (unknown : Option ℕ) (f : Field) (fs : List Field) → fields_unambiguous true table unknown (f ∷ fs) ≡ true →
         (es : List Parts) (vs ws : Values) → HasMember R (Sub f.of) f.presence es vs (AreMembers R Sub unknown fs) →
         LeftOut R (Sub f.of) f.presence ws (AreMembers R Sub unknown fs es) → ⊥
     not_both_ways unknown f fs told es vs ws a b =
@@ -320,23 +323,25 @@ module _ (R : Rules) (lawful : AreLawfulRules R) where
         (none_alike unknown f fs told c.0 h es d.0 d.1)).0 h
 
     pub members_one : ((t : ℕ) → HasOneValue (Sub t)) → (unknown : Option ℕ) (fs : List Field) →
-        fields_told true table unknown fs ≡ true → (es : List Parts) (vs ws : Values) →
+        fields_unambiguous true table unknown fs ≡ true → (es : List Parts) (vs ws : Values) →
         AreMembers R Sub unknown fs es vs → AreMembers R Sub unknown fs es ws → vs ≡ ws
     members_one one unknown [] told es vs ws a b = others_one one unknown es vs ws a b
     members_one one unknown (f ∷ fs) told es vs ws (inl a) (inl b) =
         both_there f (one f.of) es (AreMembers R Sub unknown fs)
         (λ us xs e h c. none_alike unknown f fs told e h us xs c)
-        (λ us xs ys. members_one one unknown fs (second_holds (field_told true table unknown (node_at table f.of) fs)
-        (fields_told true table unknown fs) told) us xs ys) vs ws a b
+        (λ us xs ys. members_one one unknown fs (second_holds
+        (field_unambiguous true table unknown (node_at table f.of) fs)
+        (fields_unambiguous true table unknown fs) told) us xs ys) vs ws a b
     members_one one unknown (f ∷ fs) told es vs ws (inl a) (inr b) = absurd (not_both_ways unknown f fs told es vs ws a b)
     members_one one unknown (f ∷ fs) told es vs ws (inr a) (inl b) = absurd (not_both_ways unknown f fs told es ws vs b a)
     members_one one unknown (f ∷ fs) told es vs ws (inr a) (inr b) =
         left_one (Sub f.of) (one f.of) f.presence (AreMembers R Sub unknown fs es)
-        (λ xs ys. members_one one unknown fs (second_holds (field_told true table unknown (node_at table f.of) fs)
-        (fields_told true table unknown fs) told) es xs ys) vs ws a b
+        (λ xs ys. members_one one unknown fs (second_holds
+        (field_unambiguous true table unknown (node_at table f.of) fs)
+        (fields_unambiguous true table unknown fs) told) es xs ys) vs ws a b
 
     set_one : ((t : ℕ) → HasOneValue (Sub t)) → (unknown : Option ℕ) (fs : List Field) →
-        fields_told true table unknown fs ≡ true → (o : List ℕ) (vs ws : Values) → AreSet R Sub unknown fs o vs →
+        fields_unambiguous true table unknown fs ≡ true → (o : List ℕ) (vs ws : Values) → AreSet R Sub unknown fs o vs →
         AreSet R Sub unknown fs o ws → vs ≡ ws
     set_one one unknown fs told o vs ws a b =
         let same : a.elements ≡ b.elements =
@@ -346,7 +351,7 @@ module _ (R : Rules) (lawful : AreLawfulRules R) where
 
     kind_one : ((t : ℕ) → HasOneValue (Sub t)) → (depth : ℕ) (Same : ℕ → Parts → Value → Type 0) →
         HasItsTag table Same → ((t : ℕ) → HasOneValue (Same t)) → (ts : Tags) (kind : Kind) →
-        kind_told table ts kind ≡ true → HasOneValue (KindBody R depth Sub Same kind)
+        kind_unambiguous table ts kind ≡ true → HasOneValue (KindBody R depth Sub Same kind)
     kind_one one depth Same has same ts kinds.Boolean told p v w a b =
         let e = lawful.truth p.content a.0 b.0 a.3 b.3 in
         a.1 ∙ (ap (λ z. leaf (boolean z)) e ∙ sym b.1)
@@ -372,11 +377,11 @@ module _ (R : Rules) (lawful : AreLawfulRules R) where
         a.1 ∙ (ap (λ z. leaf (time kind z)) e ∙ sym b.1)
     kind_one one depth Same has same ts kinds.Any told p v w a b = a.0 ∙ sym b.0
     kind_one one depth Same has same ts (kinds.Sequence fields unknown) told p v w a b =
-        let e = fields_one one unknown fields.items (second_holds (is_single ts) (fields_told false table unknown fields.items)
+        let e = fields_one one unknown fields.items (second_holds (is_single ts) (fields_unambiguous false table unknown fields.items)
         told) p.content a.0 b.0 a.3 b.3 in
         a.1 ∙ (ap row e ∙ sym b.1)
     kind_one one depth Same has same ts (kinds.Set fields unknown) told p v w a b =
-        let e = set_one one unknown fields.items (second_holds (is_single ts) (fields_told true table unknown fields.items)
+        let e = set_one one unknown fields.items (second_holds (is_single ts) (fields_unambiguous true table unknown fields.items)
         told) p.content a.0 b.0 a.3 b.3 in
         a.1 ∙ (ap row e ∙ sym b.1)
     kind_one one depth Same has same ts (kinds.SequenceOf t) told p v w a b =
@@ -387,7 +392,7 @@ module _ (R : Rules) (lawful : AreLawfulRules R) where
         a.1 ∙ (ap row e ∙ sym b.1)
     kind_one one depth Same has same ts (kinds.Choice arms) told p v w a b =
         let k : a.0 ≡ b.0 = one_arm table arms.items a.0 b.0 a.2 b.2 p.id
-        (first_holds (arms_told table arms.items) (arms_held table ts arms.items) told) a.4 b.4
+        (first_holds (arms_unambiguous table arms.items) (arms_included table ts arms.items) told) a.4 b.4
         (has a.2 p a.1 a.5) (has b.2 p b.1 b.5) in
         let found : slice_get arms.items a.0 ≡ Some b.2 =
         subst (λ (z : ℕ). slice_get arms.items z ≡ Some b.2) (sym k) b.4 in

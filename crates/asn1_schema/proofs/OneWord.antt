@@ -23,7 +23,7 @@ use Rattle.asn1_schema.specs.Values.{Value, Values, leaf, row, chosen, none, abs
 use Rattle.asn1_schema.specs.Grammar.{Says, Begins, has_tag, trimmed, of_octets, of_bits, StringOf, IsString, AreEach, AreItems, LeftOut, MayStand, IsThere, AreFields, Takes, HasMember, AreOthers, AreMembers, AreSet, KindBody, Through, Body, Word}
 use Rattle.asn1_schema.specs.Each.{Each}
 use Rattle.asn1_schema.specs.Rules.{strict, IsStrictTruth, TagsAscend}
-use Rattle.asn1_schema.specs.Sound.{is_sound, is_single, fields_told, kind_told}
+use Rattle.asn1_schema.specs.Sound.{is_sound, is_single, fields_unambiguous, kind_unambiguous}
 use Rattle.asn1_schema.proofs.Tags.{first_holds, node_told, single_tag}
 use Rattle.asn1_schema.proofs.TakesParts.{each_left, ascend_left, one_put, each_joined}
 use Rattle.asn1_schema.proofs.BitContents.{one_bit_content}
@@ -292,7 +292,7 @@ module _ (depth : ℕ) (Sub : ℕ → Parts → Value → Type 0) (one : (t : �
   one_named true xs ys a b e = sym (a refl) ∙ (e ∙ b refl)
   one_named false xs ys a b e = e
 
-  kind_word : (table : List Node) (ts : Tags) (kind : Kind) → kind_told table ts kind ≡ true →
+  kind_word : (table : List Node) (ts : Tags) (kind : Kind) → kind_unambiguous table ts kind ≡ true →
       (p q : Parts) (v : Value) → has_tag ts p.id ≡ true → has_tag ts q.id ≡ true →
       KindBody strict depth Sub Same kind p v → KindBody strict depth Sub Same kind q v → SameParts p q
   kind_word table ts kinds.Boolean told p q v h g a b =
@@ -339,12 +339,14 @@ module _ (depth : ℕ) (Sub : ℕ → Parts → Value → Type 0) (one : (t : �
   kind_word table ts (kinds.Sequence fields unknown) told p q v h g a b =
       let e : row a.0 ≡ row b.0 = sym a.1 ∙ b.1 in
       let x : a.0 ≡ b.0 = cc in
-      alike ts p q true (first_holds (is_single ts) (fields_told false table unknown fields.items) told) h g a.2 b.2
+      alike ts p q true (first_holds (is_single ts) (fields_unambiguous false table unknown fields.items) told) h g a.2
+      b.2
       (fields_word Sub one unknown fields.items p.content q.content a.0 b.0 x a.3 b.3)
   kind_word table ts (kinds.Set fields unknown) told p q v h g a b =
       let e : row a.0 ≡ row b.0 = sym a.1 ∙ b.1 in
       let x : a.0 ≡ b.0 = cc in
-      alike ts p q true (first_holds (is_single ts) (fields_told true table unknown fields.items) told) h g a.2 b.2
+      alike ts p q true (first_holds (is_single ts) (fields_unambiguous true table unknown fields.items) told) h g a.2
+      b.2
       (set_word Sub one unknown fields.items p.content q.content a.0 b.0 x a.3 b.3)
   kind_word table ts (kinds.SequenceOf t) told p q v h g a b =
       let e : row a.0 ≡ row b.0 = sym a.1 ∙ b.1 in

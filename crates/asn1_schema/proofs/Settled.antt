@@ -5,7 +5,7 @@ use Rattle.std.proofs.lemmas.List.{append-nil}
 use Rattle.x690.specs.Identifiers.{Identifier}
 use Rattle.x690.specs.Elements.{Parts, IsDerElement}
 use Rattle.x690.specs.Joined.{IsConcatenation, NoPrefix}
-use Rattle.asn1_headers.specs.Answers.{Front}
+use Rattle.asn1_headers.specs.Answers.{HasPrefix}
 use Rattle.asn1_schema.specs.Grammar.{Takes}
 use Rattle.asn1_schema.specs.Each.{Each}
 use Rattle.asn1_schema.specs.Rules.{IsTagBefore, AscendBehind, TagsAscend, strict}
@@ -82,7 +82,7 @@ room_begun e es octets j =
     record { front = []; back = es; passed = []; is = refl; less = tt; joins = refl; left = j; octets_are = refl }
 
 pub room_further : (e : Parts) (es : List Parts) (octets rest tail : List ℕ) (p : Parts) → RoomSoFar e es octets rest →
-    Front IsDerElement rest p tail → IsTagBefore p.id e.id → RoomSoFar e es octets tail
+    HasPrefix IsDerElement rest p tail → IsTagBefore p.id e.id → RoomSoFar e es octets tail
 room_further e es octets rest tail p s f b =
     let u = front_joined strict strict_lawful rest tail p s.back f s.left in
     record {
@@ -113,7 +113,7 @@ room e es octets rest n s a l h = (
 )
 
 pub room_before : (e : Parts) (es : List Parts) (octets rest tail : List ℕ) (p : Parts) (n : ℕ) →
-    (s : RoomSoFar e es octets rest) → TagsAscend es → n ≡ length s.passed → Front IsDerElement rest p tail →
+    (s : RoomSoFar e es octets rest) → TagsAscend es → n ≡ length s.passed → HasPrefix IsDerElement rest p tail →
     IsTagBefore e.id p.id → HasRoom e es octets (Some n)
 room_before e es octets rest tail p n s a l f b =
     let u = front_joined strict strict_lawful rest tail p s.back f s.left in
@@ -127,7 +127,7 @@ room_at_end e es octets rest n s a l none =
     room e es octets rest n s a l (λ x others is. absurd (cc))
 
 pub no_room : (e : Parts) (es : List Parts) (octets rest tail : List ℕ) (p : Parts) → RoomSoFar e es octets rest →
-    Front IsDerElement rest p tail → (IsTagBefore e.id p.id → ⊥) → (IsTagBefore p.id e.id → ⊥) → HasRoom e es octets None
+    HasPrefix IsDerElement rest p tail → (IsTagBefore e.id p.id → ⊥) → (IsTagBefore p.id e.id → ⊥) → HasRoom e es octets None
 no_room e es octets rest tail p s f after before =
     let u = front_joined strict strict_lawful rest tail p s.back f s.left in
     no_place es e p s.front u.0 (s.is ∙ ap (λ (z : List Parts). s.front ++ z) u.1) after before
@@ -138,7 +138,7 @@ room_size e es octets rest s =
     let size = ap length s.octets_are ∙ length-append s.passed rest in omega (arith, size)
 
 -- the element is the one at the front
-pub one_id : (one rest : List ℕ) (e p : Parts) → Front IsDerElement one p rest → IsDerElement one e → e.id ≡ p.id
+pub one_id : (one rest : List ℕ) (e p : Parts) → HasPrefix IsDerElement one p rest → IsDerElement one e → e.id ≡ p.id
 one_id one rest e p f d =
     ap (λ (z : Parts). z.id) (same_front strict strict_lawful one one f.word [] rest e p d f.fits (sym (append-nil one)) f.is).0
 

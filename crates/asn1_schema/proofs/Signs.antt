@@ -5,13 +5,14 @@ use Rattle.std.proofs.lemmas.List.{length-map, take-map, drop-map, drop-drop}
 use Rattle.std.proofs.Math.Seq.{take-append_seam}
 use Rattle.asn1_schema.specs.declared.tape.Item.{Item}
 use Rattle.asn1_schema.specs.declared.same.SignKind.TheVariants as signs
-use Rattle.asn1_schema.specs.Values.{Leaf, boolean, null, integer, enumerated, bits, octets, identifier, text, time, any}
+use Rattle.asn1_schema.specs.Values.{LeafValue, boolean, null, integer, enumerated, bits, octets, identifier, text, time, any}
 use Rattle.asn1_schema.specs.Values.{Value, Values, leaf, row, chosen, none, absent, more, joined}
 use Rattle.asn1_schema.specs.Tape.{Sort, of_octets, of_text, of_time, string}
 use Rattle.asn1_schema.specs.Tape.{Kept, KeptRow, kept_leaf, kept_string, kept_bits, kept_row, kept_chosen, kept_none, kept_absent, kept_more}
 use Rattle.asn1_schema.specs.Tape.{Mark, mark, marks, leaf_mark, end_mark, arm_end_mark, pieces_mark, value_of, values_of, tape_of, tapes_of}
 use Rattle.asn1_schema.proofs.StringOctets.{octets_of_pieces}
-use Rattle.asn1_schema.specs.Same.{all_bits_of, joined_leaf, Sign, bracket, said, signs_from, signs_of, signs_of_row}
+use Rattle.asn1_schema.specs.Same.{all_bits_of, joined_leaf, Sign, bracket, sign_said, signs_from, signs_of}
+use Rattle.asn1_schema.specs.Same.{signs_of_row}
 
 -- marks that belong to the sign before them are left out
 pub signs_behind : (n : ℕ) (ms : List Mark) → signs_from n ms ≡ signs_from 0 (drop n ms)
@@ -20,7 +21,7 @@ signs_behind (suc n) [] = refl
 signs_behind (suc n) (m ∷ ms) = signs_behind n ms
 
 -- what a leaf in one piece joins to
-pub one_leaf : (l : Leaf) → joined_leaf (leaf_mark l ∷ []) ≡ l
+pub one_leaf : (l : LeafValue) → joined_leaf (leaf_mark l ∷ []) ≡ l
 one_leaf (boolean b) = refl
 one_leaf null = refl
 one_leaf (integer n) = refl
@@ -43,15 +44,16 @@ bits_joined [] = refl
 bits_joined (b ∷ bs) = ap (λ (z : List Bool). b ++ z) (bits_joined bs)
 
 -- pieces are one sign
-pieces_sign : (ps : List Mark) (n : ℕ) (l : Leaf) (e : Mark) (r : List Mark) → length ps ≡ n → joined_leaf ps ≡ l →
-    signs_from 0 (pieces_mark n ∷ ((ps ++ e ∷ []) ++ r)) ≡ said l ∷ signs_from 0 r
+pieces_sign : (ps : List Mark) (n : ℕ) (l : LeafValue) (e : Mark) (r : List Mark) → length ps ≡ n → joined_leaf ps ≡ l →
+    signs_from 0 (pieces_mark n ∷ ((ps ++ e ∷ []) ++ r)) ≡ sign_said l ∷ signs_from 0 r
 pieces_sign ps n l e r size joins =
     let all = append_assoc ps (e ∷ []) r in
     let front = ap (λ (z : ℕ). take z (ps ++ e ∷ r)) (sym size) ∙ take-append_seam ps (e ∷ r) in
     ap (λ (z : List Mark). signs_from 0 (pieces_mark n ∷ z)) all
-    ∙ (ap (λ (z : List Mark). said (joined_leaf z) ∷ signs_from (suc n) (ps ++ e ∷ r)) front
-    ∙ (ap (λ (z : Leaf). said z ∷ signs_from (suc n) (ps ++ e ∷ r)) joins
-    ∙ ap (λ (z : List Sign). said l ∷ z) (ap (λ (z : ℕ). signs_from (suc z) (ps ++ e ∷ r)) (sym size) ∙ skipped ps)))
+    ∙ (ap (λ (z : List Mark). sign_said (joined_leaf z) ∷ signs_from (suc n) (ps ++ e ∷ r)) front
+    ∙ (ap (λ (z : LeafValue). sign_said z ∷ signs_from (suc n) (ps ++ e ∷ r)) joins
+    ∙ ap (λ (z : List Sign). sign_said l ∷ z) (ap (λ (z : ℕ). signs_from (suc z) (ps ++ e ∷ r)) (sym size) ∙
+    skipped ps)))
   where
     skipped : (ps : List Mark) → signs_from (suc (length ps)) (ps ++ e ∷ r) ≡ signs_from 0 r
     skipped [] = refl
@@ -59,15 +61,15 @@ pieces_sign ps n l e r size joins =
 
 -- so where they stand on a tape
 pub pieces_at : (others ps bs : List Item) (n : ℕ) → ps ≡ take n others → bs ≡ drop 1 (drop n others) →
-    signs_from 0 (pieces_mark n ∷ marks others) ≡ said (joined_leaf (marks ps)) ∷ signs_from 0 (marks bs)
+    signs_from 0 (pieces_mark n ∷ marks others) ≡ sign_said (joined_leaf (marks ps)) ∷ signs_from 0 (marks bs)
 pieces_at others ps bs n front back =
     let f : take n (marks others) ≡ marks ps = take-map mark n others ∙ ap marks (sym front) in
     let one : suc n ≡ n + 1 = omega arith in
     let more = ap (λ (i : ℕ). drop i others) one in
     let b : drop (suc n) (marks others) ≡ marks bs = drop-map mark (suc n) others
     ∙ ap marks (more ∙ (sym (drop-drop 1 n others) ∙ sym back)) in
-    ap (λ (z : List Mark). said (joined_leaf z) ∷ signs_from (suc n) (marks others)) f
-    ∙ ap (λ (z : List Sign). said (joined_leaf (marks ps)) ∷ z)
+    ap (λ (z : List Mark). sign_said (joined_leaf z) ∷ signs_from (suc n) (marks others)) f
+    ∙ ap (λ (z : List Sign). sign_said (joined_leaf (marks ps)) ∷ z)
     (signs_behind (suc n) (marks others) ∙ ap (signs_from 0) b)
 
 -- the signs of a tape are those of its value

@@ -12,7 +12,7 @@ use Rattle.asn1_schema.specs.Rules.{strict, der}
 use Rattle.asn1_schema.specs.Sound.{is_sound}
 use Rattle.asn1_schema.specs.Tape.{Kept, value_of}
 use Rattle.asn1_schema.specs.Decoding.{DecodesWhole, Fails, IsFollowed}
-use Rattle.asn1_schema.specs.Differing.{FirstDiffer, IsNotStrict, IsDerOf, HasOther, HasNone}
+use Rattle.asn1_schema.specs.Differing.{FirstDiffer, IsNotStrict, IsDerOf, HasOther, HasNoEncoding}
 use Rattle.asn1_schema.specs.Encoding.{Encodes, IsOfNoWord}
 use Rattle.asn1_schema.proofs.Lawful.{front_der}
 use Rattle.asn1_schema.proofs.OneTape.{one_tape_back}
@@ -76,7 +76,7 @@ module _ (table : List Node) (sound : is_sound table ≡ true) (depth t : ℕ) (
       none octets d.kept (subst (λ (x : Value). Word strict table depth t octets x) (value_read d.kept d.word v w) w) d.is
 
   pub has_none : (d : DecodesWhole (Word der table depth t) octets tape) → IsOfNoWord (Word strict table depth t) tape →
-      IsDerOf table depth t octets tape (HasNone table depth t)
+      IsDerOf table depth t octets tape (HasNoEncoding table depth t)
   has_none d none = record { kept = d.kept; word = d.word; is = d.is; holds = λ other w. none other d.kept w d.is }
 
 module _ (table : List Node) (sound : is_sound table ≡ true) (depth t : ℕ) (octets : List ℕ) where

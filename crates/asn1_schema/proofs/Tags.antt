@@ -9,8 +9,8 @@ use Rattle.asn1_schema.specs.declared.schema.Tags.{Tags}
 use Rattle.asn1_schema.specs.declared.schema.Tags.TheVariants as tags
 use Rattle.asn1_schema.specs.declared.schema.Node.{Node}
 use Rattle.asn1_schema.specs.Grammar.{is_tag_of, has_tag}
-use Rattle.asn1_schema.specs.Sound.{node_at, is_among, are_among, none_among, are_apart, are_within, apart_from, holds, apart_from_arms, arm_told, arms_told, arms_held, is_single, is_one}
-use Rattle.asn1_schema.specs.Sound.{kind_told, all_told, is_sound, are_classes, in_order, leads_back, all_before, HasTagAt}
+use Rattle.asn1_schema.specs.Sound.{node_at, is_among, are_among, none_among, tags_disjoint, are_within, apart_from, holds, apart_from_arms, arm_unambiguous, arms_unambiguous, arms_included, is_single, is_one}
+use Rattle.asn1_schema.specs.Sound.{kind_unambiguous, all_unambiguous, is_sound, are_classes, in_order, leads_back, all_before, HasTagAt}
 
 pub first_holds : (a b : Bool) → (a && b) ≡ true → a ≡ true
 first_holds true b e = refl
@@ -112,7 +112,7 @@ no_among id (x ∷ xs) ys a h g = elim (one_holds (is_tag_of id x) (in_list xs i
 ]
 
 -- an identifier has a tag of one alone of two that are apart
-pub apart_has : (id : Identifier) (xs ys : Tags) → are_apart xs ys ≡ true → has_tag xs id ≡ true →
+pub apart_has : (id : Identifier) (xs ys : Tags) → tags_disjoint xs ys ≡ true → has_tag xs id ≡ true →
     has_tag ys id ≡ true → ⊥
 apart_has id (tags.Among xs) (tags.Among ys) a h g = no_among id xs.items ys.items a h g
 apart_has id (tags.Among xs) (tags.AllBut ys) a h g =
@@ -156,59 +156,59 @@ none_of_arms table ts (t ∷ rest) (suc j) u id apart e h g =
 
 -- the others have none of the tags of an arm
 others_apart : (table : List Node) (a : ℕ) (rest : List ℕ) (j u : ℕ) (id : Identifier) →
-    arm_told table (node_at table a) rest ≡ true → slice_get rest j ≡ Some u → HasTagAt table a id →
+    arm_unambiguous table (node_at table a) rest ≡ true → slice_get rest j ≡ Some u → HasTagAt table a id →
     HasTagAt table u id → ⊥
 others_apart table a rest j u id told e h g =
     none_of_arms table h.node.tags rest j u id
-    (subst (λ (z : Option Node). arm_told table z rest ≡ true) h.found told) e h.tagged g
+    (subst (λ (z : Option Node). arm_unambiguous table z rest ≡ true) h.found told) e h.tagged g
 
 -- one arm alone has the tag
-pub one_arm : (table : List Node) (arms : List ℕ) (k j t u : ℕ) (id : Identifier) → arms_told table arms ≡ true →
+pub one_arm : (table : List Node) (arms : List ℕ) (k j t u : ℕ) (id : Identifier) → arms_unambiguous table arms ≡ true →
     slice_get arms k ≡ Some t → slice_get arms j ≡ Some u → HasTagAt table t id → HasTagAt table u id → k ≡ j
 one_arm table [] k j t u id told e f h g = absurd (cc)
 one_arm table (a ∷ rest) zero zero t u id told e f h g = refl
 one_arm table (a ∷ rest) zero (suc j) t u id told e f h g =
     let same : a ≡ t = cc in
     absurd (others_apart table a rest j u id
-    (first_holds (arm_told table (node_at table a) rest) (arms_told table rest) told) f
+    (first_holds (arm_unambiguous table (node_at table a) rest) (arms_unambiguous table rest) told) f
     (subst (λ (z : ℕ). HasTagAt table z id) (sym same) h) g)
 one_arm table (a ∷ rest) (suc k) zero t u id told e f h g =
     let same : a ≡ u = cc in
     absurd (others_apart table a rest k t id
-    (first_holds (arm_told table (node_at table a) rest) (arms_told table rest) told) e
+    (first_holds (arm_unambiguous table (node_at table a) rest) (arms_unambiguous table rest) told) e
     (subst (λ (z : ℕ). HasTagAt table z id) (sym same) g) h)
 one_arm table (a ∷ rest) (suc k) (suc j) t u id told e f h g =
     ap suc (one_arm table rest k j t u id
-    (second_holds (arm_told table (node_at table a) rest) (arms_told table rest) told) e f h g)
+    (second_holds (arm_unambiguous table (node_at table a) rest) (arms_unambiguous table rest) told) e f h g)
 
 -- the tags of each arm are those of the choice
-pub arm_held : (table : List Node) (ts : Tags) (arms : List ℕ) (k t : ℕ) → arms_held table ts arms ≡ true →
+pub arm_held : (table : List Node) (ts : Tags) (arms : List ℕ) (k t : ℕ) → arms_included table ts arms ≡ true →
     slice_get arms k ≡ Some t → holds ts (node_at table t) ≡ true
 arm_held table ts [] k t held e = absurd (cc)
 arm_held table ts (a ∷ rest) zero t held e =
     let same : a ≡ t = cc in
     subst (λ (z : ℕ). holds ts (node_at table z) ≡ true) same
-    (first_holds (holds ts (node_at table a)) (arms_held table ts rest) held)
+    (first_holds (holds ts (node_at table a)) (arms_included table ts rest) held)
 arm_held table ts (a ∷ rest) (suc k) t held e =
-    arm_held table ts rest k t (second_holds (holds ts (node_at table a)) (arms_held table ts rest) held) e
+    arm_held table ts rest k t (second_holds (holds ts (node_at table a)) (arms_included table ts rest) held) e
 
 -- each type of a table is told
-told_at : (table nodes : List Node) (t : ℕ) (node : Node) → all_told table nodes ≡ true →
-    slice_get nodes t ≡ Some node → kind_told table node.tags node.kind ≡ true
+told_at : (table nodes : List Node) (t : ℕ) (node : Node) → all_unambiguous table nodes ≡ true →
+    slice_get nodes t ≡ Some node → kind_unambiguous table node.tags node.kind ≡ true
 told_at table [] t node told e = absurd (cc)
 told_at table (n ∷ nodes) zero node told e =
     let same : n ≡ node = cc in
-    subst (λ (z : Node). kind_told table z.tags z.kind ≡ true) same
-    (second_holds (are_classes n.tags) (kind_told table n.tags n.kind)
-    (first_holds (are_classes n.tags && kind_told table n.tags n.kind) (all_told table nodes) told))
+    subst (λ (z : Node). kind_unambiguous table z.tags z.kind ≡ true) same
+    (second_holds (are_classes n.tags) (kind_unambiguous table n.tags n.kind)
+    (first_holds (are_classes n.tags && kind_unambiguous table n.tags n.kind) (all_unambiguous table nodes) told))
 told_at table (n ∷ nodes) (suc t) node told e = told_at table nodes t node
-    (second_holds (are_classes n.tags && kind_told table n.tags n.kind) (all_told table nodes) told) e
+    (second_holds (are_classes n.tags && kind_unambiguous table n.tags n.kind) (all_unambiguous table nodes) told) e
 
 pub node_told : (table : List Node) (t : ℕ) (node : Node) → is_sound table ≡ true → slice_get table t ≡ Some node →
-    kind_told table node.tags node.kind ≡ true
+    kind_unambiguous table node.tags node.kind ≡ true
 unfolding is_sound
 node_told table t node sound e =
-    told_at table table t node (first_holds (all_told table table) (in_order 0 table) sound) e
+    told_at table table t node (first_holds (all_unambiguous table table) (in_order 0 table) sound) e
 
 -- each type leads to places before its own
 order_at : (place : ℕ) (nodes : List Node) (t : ℕ) (node : Node) → in_order place nodes ≡ true →
@@ -231,7 +231,7 @@ unfolding is_sound
 node_order table t node sound e =
     let z : 0 + t ≡ t = omega arith in
     subst (λ (k : ℕ). leads_back k node.kind ≡ true) z
-    (order_at 0 table t node (second_holds (all_told table table) (in_order 0 table) sound) e)
+    (order_at 0 table t node (second_holds (all_unambiguous table table) (in_order 0 table) sound) e)
 
 -- an arm stands before its choice
 pub arm_before : (t : ℕ) (arms : List ℕ) (k a : ℕ) → all_before t arms ≡ true → slice_get arms k ≡ Some a → a < t

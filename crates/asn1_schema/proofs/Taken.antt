@@ -7,7 +7,7 @@ use Rattle.std.specs.declared.vec.Vec.{Vec}
 use Rattle.std.specs.declared.alloc.Global.{Global}
 use Rattle.x690.specs.Elements.{Parts, BeginsWithElement}
 use Rattle.x690.specs.Joined.{NoPrefix}
-use Rattle.asn1_headers.specs.Answers.{Front}
+use Rattle.asn1_headers.specs.Answers.{HasPrefix}
 use Rattle.asn1_schema.specs.declared.fault.Fault.{Fault}
 use Rattle.asn1_schema.specs.declared.fault.Fault.TheVariants as faults
 use Rattle.asn1_schema.specs.declared.coding.Coding.{Coding}
@@ -19,8 +19,8 @@ use Rattle.asn1_schema.specs.declared.tape.Item.{Item}
 use Rattle.asn1_schema.specs.Values.{Value, Values, leaf, row, chosen, measure}
 use Rattle.asn1_schema.specs.Grammar.{Rules, has_tag, Says, Begins, AreItems, AnyOrder, KindBody, IsOfNode, Through, Body, Word, IsMeasured}
 use Rattle.asn1_schema.specs.Tape.{kept_leaf, kept_chosen, Mark, mark, marks, arm_mark, arm_end_mark, value_of, tape_of}
-use Rattle.asn1_schema.specs.Sound.{is_sound, HasTagAt, arms_told, all_before, leads_back}
-use Rattle.asn1_schema.specs.Reading.{rules_of, Judges, PutsValue, ReadsValue, JudgesBounds, PutsFront, HasNoPrefix, ReadsFront, BeginsTagged}
+use Rattle.asn1_schema.specs.Sound.{is_sound, HasTagAt, arms_unambiguous, all_before, leads_back}
+use Rattle.asn1_schema.specs.Reading.{rules_of, Judges, PutsValue, ReadsValue, JudgesBounds, PutsPrefix, HasNoPrefix, ReadsPrefix, BeginsTagged}
 use Rattle.asn1_schema.proofs.Depths.{unless, where_memory}
 use Rattle.asn1_schema.proofs.Bounded.{bounds_read}
 use Rattle.asn1_schema.proofs.Tags.{node_order, one_arm}
@@ -181,7 +181,8 @@ set_read (codings.Ber max) Sub b octets old new r a = a
 -- Words.
 module _ (R : Rules) (lawful : AreLawfulRules R) where
   -- no tag of a type begins octets whose first element has none
-  pub tagged_apart : (table : List Node) (t : ℕ) (octets rest : List ℕ) (p : Parts) → Front R.ElementOf octets p rest →
+  pub tagged_apart : (table : List Node) (t : ℕ) (octets rest : List ℕ) (p : Parts) →
+      HasPrefix R.ElementOf octets p rest →
       (HasTagAt table t p.id → ⊥) → BeginsTagged R table t octets → ⊥
   tagged_apart table t octets rest p f other b =
       let u = same_front R lawful octets b.word f.word b.rest rest b.parts p b.element f.fits b.is f.is in
@@ -191,7 +192,7 @@ module _ (R : Rules) (lawful : AreLawfulRules R) where
     pub no_element : (octets : List ℕ) → NoPrefix R.ElementOf octets → HasNoPrefix (Begins R Sub octets)
     no_element octets n v rest b = n b.word rest b.says.parts b.is b.says.element
 
-    pub front_shorter : (octets rest : List ℕ) (p : Parts) → Front R.ElementOf octets p rest → length rest < length octets
+    pub front_shorter : (octets rest : List ℕ) (p : Parts) → HasPrefix R.ElementOf octets p rest → length rest < length octets
     front_shorter octets rest p f =
         let l = ap length f.is ∙ length-append f.word rest in
         by_word f.word f.fits l
@@ -201,14 +202,14 @@ module _ (R : Rules) (lawful : AreLawfulRules R) where
         by_word (x ∷ w) a l = omega (arith, l)
 
     -- no value begins octets where that of their first element is none
-    no_value_no_front : (octets rest : List ℕ) (p : Parts) → Front R.ElementOf octets p rest →
+    no_value_no_front : (octets rest : List ℕ) (p : Parts) → HasPrefix R.ElementOf octets p rest →
         ((v : Value) → Sub p v → ⊥) → HasNoPrefix (Begins R Sub octets)
     no_value_no_front octets rest p f n v r b =
         let u = same_front R lawful octets b.word f.word r rest b.says.parts p b.says.element f.fits b.is f.is in
         n v (subst (λ (z : Parts). Sub z v) u.0 b.says.value)
 
     pub front_read : (octets rest : List ℕ) (p : Parts) (old new : List Item) →
-        Front R.ElementOf octets p rest → PutsValue (Sub p) old new → PutsFront (Begins R Sub octets) old new rest
+        HasPrefix R.ElementOf octets p rest → PutsValue (Sub p) old new → PutsPrefix (Begins R Sub octets) old new rest
     front_read octets rest p old new f a = record {
       kept = a.kept;
       holds = record { word = f.word; says = record { parts = p; element = f.fits; value = a.holds }; is = f.is };
@@ -216,14 +217,14 @@ module _ (R : Rules) (lawful : AreLawfulRules R) where
     }
 
     pub front_refused : (T : Type 0) (octets rest : List ℕ) (p : Parts) (old mid new : List Item) (e : Fault) →
-        Front R.ElementOf octets p rest → ReadsValue {T = T} (Sub p) old mid (Err e) →
-        ReadsFront (Begins R Sub octets) old new (Err e)
+        HasPrefix R.ElementOf octets p rest → ReadsValue {T = T} (Sub p) old mid (Err e) →
+        ReadsPrefix (Begins R Sub octets) old new (Err e)
     front_refused T octets rest p old mid new e f a =
         unless e ((v : Value) → Sub p v → ⊥) (HasNoPrefix (Begins R Sub octets)) (no_value_no_front octets rest p f) a
 
     -- the word that the octets are
     pub whole_read : (octets rest : List ℕ) (old new : List Item) → rest ≡ [] →
-        PutsFront (Begins R Sub octets) old new rest → PutsValue (Says R Sub octets) old new
+        PutsPrefix (Begins R Sub octets) old new rest → PutsValue (Says R Sub octets) old new
     whole_read octets rest old new over a = record {
       kept = a.kept;
       holds = subst (λ (z : List ℕ). Says R Sub z (value_of a.kept))
@@ -232,14 +233,14 @@ module _ (R : Rules) (lawful : AreLawfulRules R) where
     }
 
     pub not_whole : (octets rest : List ℕ) (old new : List Item) → (rest ≡ [] → ⊥) →
-        PutsFront (Begins R Sub octets) old new rest → (v : Value) → Says R Sub octets v → ⊥
+        PutsPrefix (Begins R Sub octets) old new rest → (v : Value) → Says R Sub octets v → ⊥
     not_whole octets rest old new some a v b =
         let u = same_front R lawful octets a.holds.word octets rest [] a.holds.says.parts b.parts a.holds.says.element
         b.element a.holds.is (sym (append-nil octets)) in
         some u.1
 
     pub whole_refused : (T : Type 0) (octets : List ℕ) (old mid new : List Item) (e : Fault) →
-        ReadsFront (Begins R Sub octets) old mid (Err e) → ReadsValue {T = T} (Says R Sub octets) old new (Err e)
+        ReadsPrefix (Begins R Sub octets) old mid (Err e) → ReadsValue {T = T} (Says R Sub octets) old new (Err e)
     whole_refused T octets old mid new e a =
         unless e (HasNoPrefix (Begins R Sub octets)) ((v : Value) → Says R Sub octets v → ⊥)
         (λ n v b. n v [] (record { word = octets; says = b; is = sym (append-nil octets) })) a
@@ -275,7 +276,7 @@ module _ (R : Rules) (lawful : AreLawfulRules R) where
     arm_read p k t old mid made new (Err e) found first a last err = where_memory e _ err
 
     pub arm_refused : (T U : Type 0) (p : Parts) (k t : ℕ) (old mid made new : List Item) (e : Fault) →
-        arms_told table arms ≡ true → slice_get arms k ≡ Some t → HasTagAt table t p.id →
+        arms_unambiguous table arms ≡ true → slice_get arms k ≡ Some t → HasTagAt table t p.id →
         ReadsValue {T = U} (Body R table depth t p) mid made (Err e) →
         ReadsValue {T = T} (λ v. (k : ℕ) × (w : Value) × (a : ℕ) × (v ≡ chosen k w) × (slice_get arms k ≡ Some a) ×
         Body R table depth a p w) old new (Err e)

@@ -5,7 +5,7 @@ use Rattle.std.proofs.lemmas.List.{map-append, append-nil, length-append, length
 use Rattle.x690.specs.Lengths.{indefinite}
 use Rattle.x690.specs.Elements.{Parts}
 use Rattle.x690.specs.Joined.{NoPrefix, IsConcatenation}
-use Rattle.asn1_headers.specs.Answers.{Front}
+use Rattle.asn1_headers.specs.Answers.{HasPrefix}
 use Rattle.asn1_schema.specs.declared.fault.Fault.{Fault}
 use Rattle.asn1_schema.specs.declared.fault.Fault.TheVariants as faults
 use Rattle.asn1_schema.specs.declared.coding.Coding.{Coding}
@@ -167,7 +167,7 @@ module _ (e : Coding) (s : Sort) (depth : ℕ) (All : List (Elem s) → Type 0) 
 
   -- one more
   pub piece_more : (tail : List ℕ) (p : Parts) (next : Bool) (new : List Item) → IsTrue follow →
-      Front (rules_of e).ElementOf rest p tail → PutsPieces e s (IsPiece e (string_of e s) depth p) next mid new →
+      HasPrefix (rules_of e).ElementOf rest p tail → PutsPieces e s (IsPiece e (string_of e s) depth p) next mid new →
       PiecesSoFar e s (ArePieces e (string_of e s) depth tail) All tail next old new
   piece_more tail p next new may f a = record {
     done = so.done ++ a.pieces;
@@ -222,7 +222,7 @@ module _ (e : Coding) (s : Sort) (depth : ℕ) (All : List (Elem s) → Type 0) 
           )
 
   pub piece_refused : (tail : List ℕ) (p : Parts) (new : List Item) (x : Fault) →
-      (rest ≡ [] → ⊥) → Front (rules_of e).ElementOf rest p tail →
+      (rest ≡ [] → ⊥) → HasPrefix (rules_of e).ElementOf rest p tail →
       ReadsPieces e s (IsPiece e (string_of e s) depth p) mid new (Err x) → ReadsPieces e s All old new (Err x)
   piece_refused tail p new x some f a =
       unless x ((xs : List (Elem s)) → IsPiece e (string_of e s) depth p xs → ⊥) ((xs : List (Elem s)) → All xs → ⊥)

@@ -6,7 +6,7 @@ use Rattle.std.proofs.lemmas.List.{append-nil, length-append}
 use Rattle.std.specs.declared.vec.Vec.{Vec}
 use Rattle.std.specs.declared.alloc.Global.{Global}
 use Rattle.x690.specs.Elements.{Parts}
-use Rattle.asn1_headers.specs.Answers.{Front}
+use Rattle.asn1_headers.specs.Answers.{HasPrefix}
 use Rattle.asn1_schema.specs.declared.fault.Fault.{Fault}
 use Rattle.asn1_schema.specs.declared.fault.Fault.TheVariants as faults
 use Rattle.asn1_schema.specs.declared.schema.Presence.{Presence}
@@ -17,8 +17,8 @@ use Rattle.asn1_schema.specs.declared.tape.Item.{Item}
 use Rattle.asn1_schema.specs.Values.{Value, Values, row, none, absent, more}
 use Rattle.asn1_schema.specs.Grammar.{Rules, Says, Begins, AreEach, AreItems, AnyOrder, AreUnknown, AreFields, LeftOut, MayStand, IsThere}
 use Rattle.asn1_schema.specs.Tape.{KeptRow, kept_row, kept_none, kept_absent, kept_more, Mark, marks, begin_mark, end_mark, absent_mark, between, value_of, values_of, tape_of, tapes_of}
-use Rattle.asn1_schema.specs.Sound.{HasTagAt, node_at, field_told, fields_told, may_be_left_out}
-use Rattle.asn1_schema.specs.Reading.{PutsValue, ReadsValue, PutsRow, ReadsRow, PutsFront, HasNoPrefix, ReadsFront, BeginsTagged, Leaves, LeavesOut, MayNot, IsMissing, ReadsField, UnlessMemory}
+use Rattle.asn1_schema.specs.Sound.{HasTagAt, node_at, field_unambiguous, fields_unambiguous, may_be_left_out}
+use Rattle.asn1_schema.specs.Reading.{PutsValue, ReadsValue, PutsValues, ReadsValues, PutsPrefix, HasNoPrefix, ReadsPrefix, BeginsTagged, PutsLeftOut, LeavesOut, MayNot, IsMissing, ReadsByPresence, UnlessMemory}
 use Rattle.asn1_schema.specs.Members.{ReadsLeftOut}
 use Rattle.asn1_schema.proofs.Depths.{unless, where_memory}
 use Rattle.asn1_schema.proofs.Tags.{first_holds, of_optional}
@@ -94,7 +94,7 @@ further Now Next Whole old mid new some s e up down = record {
 
 -- and then the rest
 pub ended : {T : Type 0} (Now Whole : Values → Type 0) (old mid new : List Item) (r : Result T Fault) →
-    SoFar Now Whole old mid → ReadsRow Now mid new r → ReadsRow Whole old new r
+    SoFar Now Whole old mid → ReadsValues Now mid new r → ReadsValues Whole old new r
 ended Now Whole old mid new (Ok x) s a = record {
   kept = joined_rows s.done a.kept;
   holds = subst Whole (sym (values_join s.done a.kept)) (s.onward (values_of a.kept) a.holds);
@@ -109,7 +109,7 @@ refused Now Whole old new s not_now vs a = let b = s.back vs a in not_now b.0 b.
 
 -- A row is put between its ends.
 pub row_read : {T : Type 0} (b : Bool) (Q : Values → Type 0) (old mid made new : List Item) (place : ℕ) (r : Result T Fault) →
-    b ≡ true → place ≡ length (marks old) → marks mid ≡ marks old ++ begin_mark 0 ∷ [] → PutsRow Q mid made →
+    b ≡ true → place ≡ length (marks old) → marks mid ≡ marks old ++ begin_mark 0 ∷ [] → PutsValues Q mid made →
     ((front inner : List Mark) → marks made ≡ front ++ begin_mark 0 ∷ inner → place ≡ length front → OnOk r
     (marks new ≡ front ++ between (begin_mark (length inner)) inner (end_mark (length inner)))) →
     IfErr r (λ e. e ≡ faults.Memory) →
@@ -123,13 +123,13 @@ row_read b Q old mid made new place (Ok x) constructed at opened a closed err = 
 row_read b Q old mid made new place (Err e) constructed at opened a closed err = where_memory e _ err
 
 pub row_refused : (T U : Type 0) (b : Bool) (Q : Values → Type 0) (old mid made new : List Item) (e : Fault) →
-    ReadsRow {T = U} Q mid made (Err e) →
+    ReadsValues {T = U} Q mid made (Err e) →
     ReadsValue {T = T} (λ v. (vs : Values) × (v ≡ row vs) × (b ≡ true) × Q vs) old new (Err e)
 row_refused T U b Q old mid made new e a = unless e ((vs : Values) → Q vs → ⊥) _ (λ n v w. n w.0 w.3) a
 
 -- where a row begins, its place is on the tape
 pub place_within : (old mid made : List Item) (Q : Values → Type 0) (place : ℕ) → place ≡ length (marks old) →
-    marks mid ≡ marks old ++ begin_mark 0 ∷ [] → PutsRow Q mid made → place < length (marks made)
+    marks mid ≡ marks old ++ begin_mark 0 ∷ [] → PutsValues Q mid made → place < length (marks made)
 place_within old mid made Q place at opened a =
     let l = ap length a.is ∙ length-append (marks mid) (tapes_of a.kept) in
     let m = ap length opened ∙ length-append (marks old) (begin_mark 0 ∷ []) in
@@ -140,7 +140,7 @@ module _ (R : Rules) (lawful : AreLawfulRules R) where
   module _ (Sub : Parts → Value → Type 0) where
     -- an item more
     pub item_more : (Whole : Values → Type 0) (octets rest : List ℕ) (old mid new : List Item) →
-        SoFar (AreItems R Sub AnyOrder octets) Whole old mid → PutsFront (Begins R Sub octets) mid new rest →
+        SoFar (AreItems R Sub AnyOrder octets) Whole old mid → PutsPrefix (Begins R Sub octets) mid new rest →
         SoFar (AreItems R Sub AnyOrder rest) Whole old new
     item_more Whole octets rest old mid new s f =
         further (AreItems R Sub AnyOrder octets) (AreItems R Sub AnyOrder rest) Whole old mid new
@@ -178,13 +178,13 @@ module _ (R : Rules) (lawful : AreLawfulRules R) where
 
     pub items_refused : (T : Type 0) (Whole : Values → Type 0) (rest : List ℕ) (old mid new : List Item) (e : Fault) →
         (rest ≡ [] → ⊥) → SoFar (AreItems R Sub AnyOrder rest) Whole old mid →
-        ReadsFront (Begins R Sub rest) mid new (Err e) → ReadsRow {T = T} Whole old new (Err e)
+        ReadsPrefix (Begins R Sub rest) mid new (Err e) → ReadsValues {T = T} Whole old new (Err e)
     items_refused T Whole rest old mid new e some s a =
         unless e (HasNoPrefix (Begins R Sub rest)) ((vs : Values) → Whole vs → ⊥)
         (λ n. refused (AreItems R Sub AnyOrder rest) Whole old mid s (no_items rest some n)) a
 
     pub items_done : (Whole : Values → Type 0) (rest : List ℕ) (old mid : List Item) → rest ≡ [] →
-        SoFar (AreItems R Sub AnyOrder rest) Whole old mid → PutsRow Whole old mid
+        SoFar (AreItems R Sub AnyOrder rest) Whole old mid → PutsValues Whole old mid
     items_done Whole rest old mid over s =
         ended {T = Unit {0}} (AreItems R Sub AnyOrder rest) Whole old mid mid (Ok tt) s (record {
           kept = kept_none;
@@ -220,26 +220,27 @@ module _ (R : Rules) (lawful : AreLawfulRules R) where
     }
 
     -- a field whose tag begins the octets is not left out
-    tagged_left : (unknown : Option ℕ) (f : Field) (fs : List Field) → fields_told false table unknown (f ∷ fs) ≡ true →
+    tagged_left : (unknown : Option ℕ) (f : Field) (fs : List Field) →
+        fields_unambiguous false table unknown (f ∷ fs) ≡ true →
         (octets : List ℕ) (ws : Values) → BeginsTagged R table f.of octets →
         LeftOut R (Sub f.of) f.presence ws (AreFields R Sub unknown fs octets) → ⊥
     tagged_left unknown f fs told octets ws h b =
         let d = left_rest R lawful (Sub f.of) f.presence (AreFields R Sub unknown fs octets) ws b in
-        let apart : field_told false table unknown (node_at table f.of) fs ≡ true =
-        of_optional (may_be_left_out f.presence) (field_told false table unknown (node_at table f.of) fs)
+        let apart : field_unambiguous false table unknown (node_at table f.of) fs ≡ true =
+        of_optional (may_be_left_out f.presence) (field_unambiguous false table unknown (node_at table f.of) fs)
         (left_may R lawful (Sub f.of) f.presence (AreFields R Sub unknown fs octets) ws b)
-        (first_holds (not (may_be_left_out f.presence) || field_told false table unknown (node_at table f.of) fs)
-        (fields_told false table unknown fs) told) in
+        (first_holds (not (may_be_left_out f.presence) || field_unambiguous false table unknown (node_at table f.of) fs)
+        (fields_unambiguous false table unknown fs) told) in
         no_next R lawful table Sub tag h.tagged.node.tags unknown fs octets d.0 d.1
-        (subst (λ (z : Option Node). field_told false table unknown z fs ≡ true) h.tagged.found apart)
+        (subst (λ (z : Option Node). field_unambiguous false table unknown z fs ≡ true) h.tagged.found apart)
         h.word h.rest h.parts h.element h.is h.tagged.tagged
 
     module _ (unknown : Option ℕ) (Whole : Values → Type 0) (f : Field) (fs : List Field) (octets rest : List ℕ)
         (old mid new : List Item) where
       -- a field more
-      field_more : R.defaults_written ≡ true → fields_told false table unknown (f ∷ fs) ≡ true →
+      field_more : R.defaults_written ≡ true → fields_unambiguous false table unknown (f ∷ fs) ≡ true →
           SoFar (AreFields R Sub unknown (f ∷ fs) octets) Whole old mid →
-          PutsFront (Begins R (Sub f.of) octets) mid new rest → SoFar (AreFields R Sub unknown fs rest) Whole old new
+          PutsPrefix (Begins R (Sub f.of) octets) mid new rest → SoFar (AreFields R Sub unknown fs rest) Whole old new
       field_more written told s b =
           further (AreFields R Sub unknown (f ∷ fs) octets) (AreFields R Sub unknown fs rest) Whole old mid new
           (kept_more b.kept kept_none) s
@@ -275,7 +276,7 @@ module _ (R : Rules) (lawful : AreLawfulRules R) where
               let c = left_rest R lawful (Sub f.of) f.presence (AreFields R Sub unknown fs octets) vs a in
               (c.0, subst (λ (z : List ℕ). AreFields R Sub unknown fs z c.0) (sym b.stays) c.1)
 
-          by_presence : (presence : Presence) → f.presence ≡ presence → Leaves R (Sub f.of) presence mid new →
+          by_presence : (presence : Presence) → f.presence ≡ presence → PutsLeftOut R (Sub f.of) presence mid new →
               SoFar (AreFields R Sub unknown fs rest) Whole old new
           by_presence presences.Required e l = absurd l
           by_presence presences.Optional e l =
@@ -293,7 +294,7 @@ module _ (R : Rules) (lawful : AreLawfulRules R) where
 
     -- a field that is missing
     no_fields : (unknown : Option ℕ) (f : Field) (fs : List Field) (octets : List ℕ) →
-        fields_told false table unknown (f ∷ fs) ≡ true →
+        fields_unambiguous false table unknown (f ∷ fs) ≡ true →
         IsMissing R (Sub f.of) (BeginsTagged R table f.of octets) f.presence octets → (vs : Values) →
         AreFields R Sub unknown (f ∷ fs) octets vs → ⊥
     no_fields unknown f fs octets told m vs (inl a) =
@@ -307,12 +308,12 @@ module _ (R : Rules) (lawful : AreLawfulRules R) where
     -- The loop.
     pub fields_further : R.defaults_written ≡ true → (unknown : Option ℕ) (Whole : Values → Type 0) (left : List Field)
         (f : Field) (fs : List Field) (rest tail : List ℕ) (old mid new : List Item) → left ≡ f ∷ fs →
-        fields_told false table unknown left ≡ true → SoFar (AreFields R Sub unknown left rest) Whole old mid →
-        PutsFront (Begins R (Sub f.of) rest) mid new tail ⊎ LeavesOut R (Sub f.of) f.presence rest mid new tail →
+        fields_unambiguous false table unknown left ≡ true → SoFar (AreFields R Sub unknown left rest) Whole old mid →
+        PutsPrefix (Begins R (Sub f.of) rest) mid new tail ⊎ LeavesOut R (Sub f.of) f.presence rest mid new tail →
         SoFar (AreFields R Sub unknown fs tail) Whole old new
     fields_further written unknown Whole left f fs rest tail old mid new is told s read = elim read [
       | inl b ↦ field_more unknown Whole f fs rest tail old mid new written
-          (subst (λ (z : List Field). fields_told false table unknown z ≡ true) is told)
+          (subst (λ (z : List Field). fields_unambiguous false table unknown z ≡ true) is told)
           (subst (λ (z : List Field). SoFar (AreFields R Sub unknown z rest) Whole old mid) is s) b
       | inr b ↦ field_less unknown Whole f fs rest tail old mid new
           (subst (λ (z : List Field). SoFar (AreFields R Sub unknown z rest) Whole old mid) is s) b
@@ -320,28 +321,29 @@ module _ (R : Rules) (lawful : AreLawfulRules R) where
 
     pub fields_refused : (T : Type 0) (unknown : Option ℕ) (Whole : Values → Type 0) (left : List Field) (f : Field)
         (fs : List Field) (rest : List ℕ) (old mid new : List Item) (e : Fault) → left ≡ f ∷ fs →
-        fields_told false table unknown left ≡ true → SoFar (AreFields R Sub unknown left rest) Whole old mid →
-        ReadsField R (Sub f.of) (BeginsTagged R table f.of rest) f.presence rest mid new (Err e) →
-        ReadsRow {T = T} Whole old new (Err e)
+        fields_unambiguous false table unknown left ≡ true → SoFar (AreFields R Sub unknown left rest) Whole old mid →
+        ReadsByPresence R (Sub f.of) (BeginsTagged R table f.of rest) f.presence rest mid new (Err e) →
+        ReadsValues {T = T} Whole old new (Err e)
     fields_refused T unknown Whole left f fs rest old mid new e is told s m =
         unless e (IsMissing R (Sub f.of) (BeginsTagged R table f.of rest) f.presence rest) ((vs : Values) → Whole vs → ⊥)
         (λ n. refused (AreFields R Sub unknown (f ∷ fs) rest) Whole old mid
         (subst (λ (z : List Field). SoFar (AreFields R Sub unknown z rest) Whole old mid) is s)
-        (no_fields unknown f fs rest (subst (λ (z : List Field). fields_told false table unknown z ≡ true) is told) n)) m
+        (no_fields unknown f fs rest (subst (λ (z : List Field). fields_unambiguous false table unknown z ≡ true) is told) n)) m
 
     -- the unknown elements behind the fields
     pub fields_ended : {T : Type 0} (unknown : Option ℕ) (Whole : Values → Type 0) (left : List Field) (rest : List ℕ)
         (old mid new : List Item) (r : Result T Fault) → left ≡ [] →
-        SoFar (AreFields R Sub unknown left rest) Whole old mid → ReadsRow (AreUnknown R Sub unknown rest) mid new r →
-        ReadsRow Whole old new r
+        SoFar (AreFields R Sub unknown left rest) Whole old mid →
+        ReadsValues (AreUnknown R Sub unknown rest) mid new r →
+        ReadsValues Whole old new r
     fields_ended unknown Whole left rest old mid new r none_left s a =
         ended (AreFields R Sub unknown [] rest) Whole old mid new r
         (subst (λ (z : List Field). SoFar (AreFields R Sub unknown z rest) Whole old mid) none_left s) a
 
     -- there are none
     pub none_behind : (unknown : Option ℕ) (rest : List ℕ) (mid : List Item) → unknown ≡ None → rest ≡ [] →
-        PutsRow (AreUnknown R Sub unknown rest) mid mid
-    none_behind unknown rest mid e over = subst (λ (z : Option ℕ). PutsRow (AreUnknown R Sub z rest) mid mid) (sym e)
+        PutsValues (AreUnknown R Sub unknown rest) mid mid
+    none_behind unknown rest mid e over = subst (λ (z : Option ℕ). PutsValues (AreUnknown R Sub z rest) mid mid) (sym e)
         (record { kept = kept_none; holds = (over, refl); is = sym (append-nil (marks mid)) })
 
     pub some_behind : (unknown : Option ℕ) (rest : List ℕ) → unknown ≡ None → (rest ≡ [] → ⊥) → (vs : Values) →
@@ -351,8 +353,8 @@ module _ (R : Rules) (lawful : AreLawfulRules R) where
 
     -- A field.
     pub field_there : (presence : Presence) (t : ℕ) (octets rest : List ℕ) (p : Parts) (old new : List Item) →
-        Front R.ElementOf octets p rest → PutsValue (Sub t p) old new →
-        PutsFront (Begins R (Sub t) octets) old new rest ⊎ LeavesOut R (Sub t) presence octets old new rest
+        HasPrefix R.ElementOf octets p rest → PutsValue (Sub t p) old new →
+        PutsPrefix (Begins R (Sub t) octets) old new rest ⊎ LeavesOut R (Sub t) presence octets old new rest
     field_there presence t octets rest p old new f a = inl (record {
       kept = a.kept;
       holds = record { word = f.word; says = record { parts = p; element = f.fits; value = a.holds }; is = f.is };
@@ -360,9 +362,9 @@ module _ (R : Rules) (lawful : AreLawfulRules R) where
     })
 
     pub field_refused : (T : Type 0) (presence : Presence) (t : ℕ) (octets rest : List ℕ) (p : Parts)
-        (old mid new : List Item) (e : Fault) → Front R.ElementOf octets p rest → HasTagAt table t p.id →
+        (old mid new : List Item) (e : Fault) → HasPrefix R.ElementOf octets p rest → HasTagAt table t p.id →
         ReadsValue {T = T} (Sub t p) old mid (Err e) →
-        ReadsField R (Sub t) (BeginsTagged R table t octets) presence octets old new (Err e)
+        ReadsByPresence R (Sub t) (BeginsTagged R table t octets) presence octets old new (Err e)
     field_refused T presence t octets rest p old mid new e f h a =
         unless e ((v : Value) → Sub t p v → ⊥) (IsMissing R (Sub t) (BeginsTagged R table t octets) presence octets)
         (λ n. record {
@@ -388,7 +390,7 @@ module _ (R : Rules) (Sub : Parts → Value → Type 0) (presence : Presence) wh
       OnOk r (marks new ≡ marks old ++ absent_mark ∷ []) → IfErr r (λ e. e ≡ faults.Memory) →
       ReadsLeftOut R Sub presence old new r
   left_absent old new (Ok x) is put err =
-      subst (λ (z : Presence). Leaves R Sub z old new) (sym is) put
+      subst (λ (z : Presence). PutsLeftOut R Sub z old new) (sym is) put
   left_absent old new (Err e) is put err = where_memory e (MayNot R Sub presence) err
 
   pub default_away : (d : Vec ℕ Global) (e : Fault) → presence ≡ presences.Default d →

@@ -9,7 +9,7 @@ use Rattle.x690.specs.Identifiers.{Identifier}
 use Rattle.x690.specs.Elements.{Parts}
 use Rattle.x690.specs.Joined.{NoPrefix, IsConcatenation}
 use Rattle.x690.specs.Laws.Joined.{joined_same}
-use Rattle.asn1_headers.specs.Answers.{Front}
+use Rattle.asn1_headers.specs.Answers.{HasPrefix}
 use Rattle.asn1_schema.specs.declared.fault.Fault.{Fault}
 use Rattle.asn1_schema.specs.declared.fault.Fault.TheVariants as faults
 use Rattle.asn1_schema.specs.declared.schema.Presence.{Presence}
@@ -23,12 +23,13 @@ use Rattle.asn1_schema.specs.declared.elements.Head.{Head}
 use Rattle.asn1_schema.specs.declared.tape.Item.{Item}
 use Rattle.asn1_schema.specs.Values.{Value, Values, none, absent, more}
 use Rattle.asn1_schema.specs.Grammar.{Rules, LeftOut, Takes, HasMember, AreOthers, AreMembers, AreSet}
-use Rattle.asn1_schema.specs.Sound.{HasTagAt, node_at, apart_from, apart_from_next, field_told, fields_told}
+use Rattle.asn1_schema.specs.Sound.{HasTagAt, node_at, apart_from, apart_from_next, field_unambiguous}
+use Rattle.asn1_schema.specs.Sound.{fields_unambiguous}
 use Rattle.asn1_schema.specs.Build.{has_tag_at}
 use Rattle.asn1_schema.specs.Each.{Each}
 use Rattle.asn1_schema.specs.Tape.{KeptRow, kept_none, kept_absent, kept_more, Mark, marks, value_of, values_of, tape_of, tapes_of}
-use Rattle.asn1_schema.specs.Reading.{rules_of, id_of, parts_of, IsBody, PutsValue, ReadsValue, PutsRow, ReadsRow, Leaves, MayNot}
-use Rattle.asn1_schema.specs.Members.{AreElements, MayFollow, BehindOf, AreOrdered, Lacks, FindsFirst, AreTwo, IsAlone, is_of_field, others_than, PutsMember, HasNoValue, HasNoMember, ReadsLeftOut, ReadsMember, IsOther, ReadsOther}
+use Rattle.asn1_schema.specs.Reading.{rules_of, id_of, head_parts, IsBody, PutsValue, ReadsValue, PutsValues, ReadsValues, PutsLeftOut, MayNot}
+use Rattle.asn1_schema.specs.Members.{AreElements, MayFollow, BehindOf, AreOrdered, Lacks, FindsFirst, HaveTagTwice, IsAlone, is_of_field, others_than, PutsMember, HasNoValue, HasNoMember, ReadsLeftOut, ReadsMember, IsUnknownElement, ReadsOther}
 use Rattle.asn1_schema.proofs.Depths.{unless}
 use Rattle.asn1_schema.proofs.Tags.{first_holds, second_holds, apart_at}
 use Rattle.asn1_schema.proofs.Strings.{AreLawfulRules}
@@ -40,7 +41,7 @@ use Rattle.asn1_schema.proofs.TakenRows.{SoFar, nothing_yet, ended, join_none, f
 -- Elements at the front.
 module _ (R : Rules) (lawful : AreLawfulRules R) where
   -- the element at the front is the first one
-  pub front_joined : (octets rest : List ℕ) (p : Parts) (es : List Parts) → Front R.ElementOf octets p rest →
+  pub front_joined : (octets rest : List ℕ) (p : Parts) (es : List Parts) → HasPrefix R.ElementOf octets p rest →
       IsConcatenation R.ElementOf octets es → (left : List Parts) × (es ≡ p ∷ left) × IsConcatenation R.ElementOf rest left
   front_joined octets rest p [] f j = absurd (some_octets R lawful f.word rest p f.fits (sym f.is ∙ j))
   front_joined octets rest p (e ∷ es) f j =
@@ -59,13 +60,13 @@ module _ (R : Rules) (lawful : AreLawfulRules R) where
 
 -- The order of elements.
 behind_more : (e : Coding) (last : Option Head) (head : Head) (content : List ℕ) (es : List Parts) →
-    MayFollow e last (id_of head) → BehindOf e (Some head) es → BehindOf e last (parts_of head content ∷ es)
+    MayFollow e last (id_of head) → BehindOf e (Some head) es → BehindOf e last (head_parts head content ∷ es)
 behind_more codings.Der None head content es m a = (tt, a)
 behind_more codings.Der (Some last) head content es m a = (m, a)
 behind_more (codings.Ber max) last head content es m a = tt
 
 behind_less : (e : Coding) (last : Option Head) (head : Head) (content : List ℕ) (es : List Parts) →
-    BehindOf e last (parts_of head content ∷ es) → MayFollow e last (id_of head) × BehindOf e (Some head) es
+    BehindOf e last (head_parts head content ∷ es) → MayFollow e last (id_of head) × BehindOf e (Some head) es
 behind_less codings.Der None head content es a = (tt, a.1)
 behind_less codings.Der (Some last) head content es a = (a.0, a.1)
 behind_less (codings.Ber max) last head content es a = (tt, tt)
@@ -79,19 +80,19 @@ pub order_begun : (e : Coding) (octets : List ℕ) → OrderSoFar e octets None 
 order_begun e octets = record { onward = λ a. a; back = λ a. a }
 
 ordered_less : (e : Coding) (last : Option Head) (rest tail content : List ℕ) (head : Head) →
-    Front (rules_of e).ElementOf rest (parts_of head content) tail → AreOrdered e last rest →
+    HasPrefix (rules_of e).ElementOf rest (head_parts head content) tail → AreOrdered e last rest →
     MayFollow e last (id_of head) × AreOrdered e (Some head) tail
 ordered_less e last rest tail content head f a =
-    let u = front_joined (rules_of e) (lawful_of e) rest tail (parts_of head content) a.elements f a.joins in
+    let u = front_joined (rules_of e) (lawful_of e) rest tail (head_parts head content) a.elements f a.joins in
     let o = behind_less e last head content u.0 (subst (BehindOf e last) u.1 a.order) in
     (o.0, record { elements = u.0; joins = u.2; order = o.1 })
 
 pub order_further : (e : Coding) (octets : List ℕ) (last : Option Head) (rest tail content : List ℕ) (head : Head) →
-    OrderSoFar e octets last rest → Front (rules_of e).ElementOf rest (parts_of head content) tail →
+    OrderSoFar e octets last rest → HasPrefix (rules_of e).ElementOf rest (head_parts head content) tail →
     MayFollow e last (id_of head) → OrderSoFar e octets (Some head) tail
 order_further e octets last rest tail content head s f m = record {
   onward = λ a. s.onward (record {
-    elements = parts_of head content ∷ a.elements;
+    elements = head_parts head content ∷ a.elements;
     joins = (f.word, tail, f.fits, f.is, a.joins);
     order = behind_more e last head content a.elements m a.order;
   });
@@ -99,7 +100,7 @@ order_further e octets last rest tail content head s f m = record {
 }
 
 pub order_broken : (e : Coding) (octets : List ℕ) (last : Option Head) (rest tail content : List ℕ) (head : Head) →
-    OrderSoFar e octets last rest → Front (rules_of e).ElementOf rest (parts_of head content) tail →
+    OrderSoFar e octets last rest → HasPrefix (rules_of e).ElementOf rest (head_parts head content) tail →
     (MayFollow e last (id_of head) → ⊥) → AreOrdered e None octets → ⊥
 order_broken e octets last rest tail content head s f n a =
     n (ordered_less e last rest tail content head f (s.back a)).0
@@ -142,10 +143,10 @@ pub first_begun : (e : Coding) (table : List Node) (t : ℕ) (octets : List ℕ)
 first_begun e table t octets es j = record { done = []; left = es; is = refl; lacking = tt; joins = j }
 
 pub first_further : (e : Coding) (table : List Node) (t : ℕ) (rest tail content : List ℕ) (head : Head) (es : List Parts) →
-    FirstSoFar e table t rest es → Front (rules_of e).ElementOf rest (parts_of head content) tail →
+    FirstSoFar e table t rest es → HasPrefix (rules_of e).ElementOf rest (head_parts head content) tail →
     (HasTagAt table t (id_of head) → ⊥) → FirstSoFar e table t tail es
 first_further e table t rest tail content head es s f n =
-    let p = parts_of head content in
+    let p = head_parts head content in
     let u = front_joined (rules_of e) (lawful_of e) rest tail p s.left f s.joins in
     record {
       done = s.done ++ p ∷ [];
@@ -156,10 +157,10 @@ first_further e table t rest tail content head es s f n =
     }
 
 pub first_found : (e : Coding) (table : List Node) (t : ℕ) (rest tail content : List ℕ) (head : Head) (es : List Parts) →
-    FirstSoFar e table t rest es → Front (rules_of e).ElementOf rest (parts_of head content) tail →
-    HasTagAt table t (id_of head) → FindsFirst e table t es (parts_of head content) tail
+    FirstSoFar e table t rest es → HasPrefix (rules_of e).ElementOf rest (head_parts head content) tail →
+    HasTagAt table t (id_of head) → FindsFirst e table t es (head_parts head content) tail
 first_found e table t rest tail content head es s f h =
-    let u = front_joined (rules_of e) (lawful_of e) rest tail (parts_of head content) s.left f s.joins in
+    let u = front_joined (rules_of e) (lawful_of e) rest tail (head_parts head content) s.left f s.joins in
     record {
       front = s.done;
       back = u.0;
@@ -186,7 +187,7 @@ first_alone e table t es p rest a n = record {
 }
 
 pub first_of_two : (e : Coding) (table : List Node) (t : ℕ) (es : List Parts) (p q : Parts) (rest tail : List ℕ)
-    (a : FindsFirst e table t es p rest) → FindsFirst e table t a.back q tail → AreTwo table t es
+    (a : FindsFirst e table t es p rest) → FindsFirst e table t a.back q tail → HaveTagTwice table t es
 first_of_two e table t es p q rest tail a b = record {
   one = p;
   others = a.front ++ a.back;
@@ -302,7 +303,7 @@ module _ (table : List Node) where
   neither true b e h = absurd (cc)
 
   pub apart_done : (unknown : Option ℕ) (done : List Field) (f : Field) (fs : List Field) →
-      fields_told true table unknown (done ++ f ∷ fs) ≡ true → (id : Identifier) → HasTagAt table f.of id →
+      fields_unambiguous true table unknown (done ++ f ∷ fs) ≡ true → (id : Identifier) → HasTagAt table f.of id →
       is_of_field table done id ≡ false
   apart_done unknown [] f fs told id h = refl
   apart_done unknown (g ∷ done) f fs told id h =
@@ -311,26 +312,27 @@ module _ (table : List Node) where
       let k = tag_at table id g.of b in
       apart_at table k.node.tags f.of id
       (apart_here unknown k.node.tags done f fs
-      (subst (λ (z : Option Node). field_told true table unknown z (done ++ f ∷ fs) ≡ true) k.found
-      (first_holds (field_told true table unknown (node_at table g.of) (done ++ f ∷ fs))
-      (fields_told true table unknown (done ++ f ∷ fs)) told))) h k.tagged))
-      (apart_done unknown done f fs (second_holds (field_told true table unknown (node_at table g.of) (done ++ f ∷ fs))
-      (fields_told true table unknown (done ++ f ∷ fs)) told) id h)
+      (subst (λ (z : Option Node). field_unambiguous true table unknown z (done ++ f ∷ fs) ≡ true) k.found
+      (first_holds (field_unambiguous true table unknown (node_at table g.of) (done ++ f ∷ fs))
+      (fields_unambiguous true table unknown (done ++ f ∷ fs)) told))) h k.tagged))
+      (apart_done unknown done f fs (second_holds
+      (field_unambiguous true table unknown (node_at table g.of) (done ++ f ∷ fs))
+      (fields_unambiguous true table unknown (done ++ f ∷ fs)) told) id h)
 
   pub told_behind : (unknown : Option ℕ) (done : List Field) (fs : List Field) →
-      fields_told true table unknown (done ++ fs) ≡ true → fields_told true table unknown fs ≡ true
+      fields_unambiguous true table unknown (done ++ fs) ≡ true → fields_unambiguous true table unknown fs ≡ true
   told_behind unknown [] fs told = told
   told_behind unknown (g ∷ done) fs told =
-      told_behind unknown done fs (second_holds (field_told true table unknown (node_at table g.of) (done ++ fs))
-      (fields_told true table unknown (done ++ fs)) told)
+      told_behind unknown done fs (second_holds (field_unambiguous true table unknown (node_at table g.of) (done ++ fs))
+      (fields_unambiguous true table unknown (done ++ fs)) told)
 
 module _ (R : Rules) (lawful : AreLawfulRules R) (table : List Node) (Sub : ℕ → Parts → Value → Type 0)
     (tag : HasItsTag table Sub) (unknown : Option ℕ) (done : List Field) (f : Field) (fs : List Field)
-    (told : fields_told true table unknown (done ++ f ∷ fs) ≡ true) (es : List Parts) where
+    (told : fields_unambiguous true table unknown (done ++ f ∷ fs) ≡ true) (es : List Parts) where
   abbrev Now : List Parts
   Now = others_than table done es
 
-  abbrev here : fields_told true table unknown (f ∷ fs) ≡ true
+  abbrev here : fields_unambiguous true table unknown (f ∷ fs) ≡ true
   here = told_behind table unknown done (f ∷ fs) told
 
   -- an element of the field is left
@@ -394,7 +396,7 @@ module _ (R : Rules) (lawful : AreLawfulRules R) (table : List Node) (Sub : ℕ 
         down vs (inr b) =
             let l = left_alone a.element a.place in absurd (not_left_out a.element l.others l.takes l.tagged vs b)
 
-    member_less : Each (Lacks table f.of) es → Leaves R (Sub f.of) f.presence mid new →
+    member_less : Each (Lacks table f.of) es → PutsLeftOut R (Sub f.of) f.presence mid new →
         SoFar (AreMembers R Sub unknown fs (others_than table (done ++ f ∷ []) es)) Whole old new
     member_less away l =
         subst (λ (z : List Parts). SoFar (AreMembers R Sub unknown fs z) Whole old new)
@@ -407,7 +409,7 @@ module _ (R : Rules) (lawful : AreLawfulRules R) (table : List Node) (Sub : ℕ 
             (λ q. not (is_of_field table done q.id)) es away)).0 (tag f.of c.0 c.2 c.5))
         down vs (inr b) = left_rest R lawful (Sub f.of) f.presence (AreMembers R Sub unknown fs Now) vs b
 
-        by_presence : (presence : Presence) → f.presence ≡ presence → Leaves R (Sub f.of) presence mid new →
+        by_presence : (presence : Presence) → f.presence ≡ presence → PutsLeftOut R (Sub f.of) presence mid new →
             SoFar (AreMembers R Sub unknown fs Now) Whole old new
         by_presence presences.Required e l = absurd l
         by_presence presences.Optional e l =
@@ -424,12 +426,12 @@ module _ (R : Rules) (lawful : AreLawfulRules R) (table : List Node) (Sub : ℕ 
 
     -- the loop
     pub member_further : R.defaults_written ≡ true →
-        PutsMember table f.of (Sub f.of) es mid new ⊎ (Each (Lacks table f.of) es × Leaves R (Sub f.of) f.presence mid new) →
+        PutsMember table f.of (Sub f.of) es mid new ⊎ (Each (Lacks table f.of) es × PutsLeftOut R (Sub f.of) f.presence mid new) →
         SoFar (AreMembers R Sub unknown fs (others_than table (done ++ f ∷ []) es)) Whole old new
     member_further written (inl a) = member_more written a
     member_further written (inr a) = member_less a.0 a.1
 
-  two_left : AreTwo table f.of es → AreTwo table f.of Now
+  two_left : HaveTagTwice table f.of es → HaveTagTwice table f.of Now
   two_left a = record {
     one = a.one;
     others = others_than table done a.others;
@@ -442,7 +444,7 @@ module _ (R : Rules) (lawful : AreLawfulRules R) (table : List Node) (Sub : ℕ 
     tagged_other = a.tagged_other;
   }
 
-  not_two : AreTwo table f.of Now → (vs : Values) → AreMembers R Sub unknown (f ∷ fs) Now vs → ⊥
+  not_two : HaveTagTwice table f.of Now → (vs : Values) → AreMembers R Sub unknown (f ∷ fs) Now vs → ⊥
   not_two a vs (inl b) =
       let c = member_there R lawful (Sub f.of) f.presence Now vs (AreMembers R Sub unknown fs) b in
       let lack = none_alike R lawful table Sub tag unknown f fs here a.one a.tagged c.1 c.3 c.6 in
@@ -469,7 +471,7 @@ module _ (R : Rules) (lawful : AreLawfulRules R) (table : List Node) (Sub : ℕ 
 
   pub members_refused : (T : Type 0) (Whole : Values → Type 0) (old mid new : List Item) (e : Fault) →
       SoFar (AreMembers R Sub unknown (f ∷ fs) Now) Whole old mid →
-      ReadsMember {T = Unit {0}} R table f.of (Sub f.of) f.presence es mid new (Err e) → ReadsRow {T = T} Whole old new (Err e)
+      ReadsMember {T = Unit {0}} R table f.of (Sub f.of) f.presence es mid new (Err e) → ReadsValues {T = T} Whole old new (Err e)
   members_refused T Whole old mid new e s a =
       unless e (HasNoMember R table f.of (Sub f.of) f.presence es) ((vs : Values) → Whole vs → ⊥)
       (λ n. refused (AreMembers R Sub unknown (f ∷ fs) Now) Whole old mid s (no_members n)) a
@@ -487,15 +489,16 @@ module _ (e : Coding) (table : List Node) (depth : ℕ) (fields : List Field) wh
   Sub = IsBody e table depth
 
   abbrev Other : Option ℕ → Parts → Value → Type 0
-  Other unknown = IsOther e table depth unknown
+  Other unknown = IsUnknownElement e table depth unknown
 
   -- an element of a field
   other_skipped : (unknown : Option ℕ) (rest tail content : List ℕ) (head : Head) (es : List Parts)
       (old new : List Item) → OthersSoFar e table Sub unknown fields rest es old new →
-      Front (rules_of e).ElementOf rest (parts_of head content) tail → is_of_field table fields (id_of head) ≡ true →
+      HasPrefix (rules_of e).ElementOf rest (head_parts head content) tail →
+      is_of_field table fields (id_of head) ≡ true →
       OthersSoFar e table Sub unknown fields tail es old new
   other_skipped unknown rest tail content head es old new s f is =
-      let p = parts_of head content in
+      let p = head_parts head content in
       let u = front_joined (rules_of e) (lawful_of e) rest tail p s.left f s.joins in
       record {
         left = u.0;
@@ -508,11 +511,12 @@ module _ (e : Coding) (table : List Node) (depth : ℕ) (fields : List Field) wh
 
   other_kept : (unknown : Option ℕ) (rest tail content : List ℕ) (head : Head) (es : List Parts)
       (old new : List Item) → (s : OthersSoFar e table Sub unknown fields rest es old new) →
-      Front (rules_of e).ElementOf rest (parts_of head content) tail → is_of_field table fields (id_of head) ≡ false →
+      HasPrefix (rules_of e).ElementOf rest (head_parts head content) tail →
+      is_of_field table fields (id_of head) ≡ false →
       (left : List Parts) × AreElements e tail left × SoFar (AreOthers Sub unknown
-      (parts_of head content ∷ others_than table fields left)) (AreOthers Sub unknown (others_than table fields es)) old new
+      (head_parts head content ∷ others_than table fields left)) (AreOthers Sub unknown (others_than table fields es)) old new
   other_kept unknown rest tail content head es old new s f is =
-      let p = parts_of head content in
+      let p = head_parts head content in
       let u = front_joined (rules_of e) (lawful_of e) rest tail p s.left f s.joins in (
         u.0,
         u.2,
@@ -536,10 +540,12 @@ module _ (e : Coding) (table : List Node) (depth : ℕ) (fields : List Field) wh
 
   other_more : (unknown : Option ℕ) (rest tail content : List ℕ) (head : Head) (es : List Parts)
       (old mid new : List Item) → OthersSoFar e table Sub unknown fields rest es old mid →
-      Front (rules_of e).ElementOf rest (parts_of head content) tail → is_of_field table fields (id_of head) ≡ false →
-      PutsValue (Other unknown (parts_of head content)) mid new → OthersSoFar e table Sub unknown fields tail es old new
+      HasPrefix (rules_of e).ElementOf rest (head_parts head content) tail →
+      is_of_field table fields (id_of head) ≡ false →
+      PutsValue (Other unknown (head_parts head content)) mid new →
+      OthersSoFar e table Sub unknown fields tail es old new
   other_more unknown rest tail content head es old mid new s f is a =
-      let p = parts_of head content in
+      let p = head_parts head content in
       let k = other_kept unknown rest tail content head es old mid s f is in
       let left = others_than table fields k.0 in
       record {
@@ -554,8 +560,8 @@ module _ (e : Coding) (table : List Node) (depth : ℕ) (fields : List Field) wh
 
   pub other_further : (unknown : Option ℕ) (rest tail content : List ℕ) (head : Head) (es : List Parts)
       (old mid new : List Item) → OthersSoFar e table Sub unknown fields rest es old mid →
-      Front (rules_of e).ElementOf rest (parts_of head content) tail →
-      ReadsOther {T = Unit {0}} e table depth unknown fields (parts_of head content) mid new (Ok tt) →
+      HasPrefix (rules_of e).ElementOf rest (head_parts head content) tail →
+      ReadsOther {T = Unit {0}} e table depth unknown fields (head_parts head content) mid new (Ok tt) →
       OthersSoFar e table Sub unknown fields tail es old new
   other_further unknown rest tail content head es old mid new s f (inl a) =
       subst (λ (z : List Item). OthersSoFar e table Sub unknown fields tail es old z) (sym a.1)
@@ -565,11 +571,11 @@ module _ (e : Coding) (table : List Node) (depth : ℕ) (fields : List Field) wh
 
   pub other_refused : (unknown : Option ℕ) (rest tail content : List ℕ) (head : Head) (es : List Parts)
       (old mid new : List Item) (fault : Fault) → OthersSoFar e table Sub unknown fields rest es old mid →
-      Front (rules_of e).ElementOf rest (parts_of head content) tail →
-      ReadsOther {T = Unit {0}} e table depth unknown fields (parts_of head content) mid new (Err fault) →
-      ReadsRow {T = Unit {0}} (AreOthers Sub unknown (others_than table fields es)) old new (Err fault)
+      HasPrefix (rules_of e).ElementOf rest (head_parts head content) tail →
+      ReadsOther {T = Unit {0}} e table depth unknown fields (head_parts head content) mid new (Err fault) →
+      ReadsValues {T = Unit {0}} (AreOthers Sub unknown (others_than table fields es)) old new (Err fault)
   other_refused unknown rest tail content head es old mid new fault s f a =
-      let p = parts_of head content in
+      let p = head_parts head content in
       unless fault ((is_of_field table fields p.id ≡ false) × ((v : Value) → Other unknown p v → ⊥))
       ((vs : Values) → AreOthers Sub unknown (others_than table fields es) vs → ⊥)
       (λ n.
@@ -584,7 +590,7 @@ module _ (e : Coding) (table : List Node) (depth : ℕ) (fields : List Field) wh
 
   pub others_done : (unknown : Option ℕ) (rest : List ℕ) (es : List Parts) (old new : List Item) →
       OthersSoFar e table Sub unknown fields rest es old new → NoPrefix (rules_of e).ElementOf rest →
-      PutsRow (AreOthers Sub unknown (others_than table fields es)) old new
+      PutsValues (AreOthers Sub unknown (others_than table fields es)) old new
   others_done unknown rest es old new s n =
       let over = none_joined (rules_of e) (lawful_of e) rest s.left n s.joins in
       let so_far = s.so_far in
@@ -613,12 +619,12 @@ pub members_ended : {T : Type 0} (R : Rules) (table : List Node) (Sub : ℕ → 
     (Whole : Values → Type 0) (fields done left : List Field) (es : List Parts) (old mid new : List Item)
     (r : Result T Fault) → fields ≡ done ++ left → left ≡ [] →
     SoFar (AreMembers R Sub unknown left (others_than table done es)) Whole old mid →
-    ReadsRow (AreOthers Sub unknown (others_than table fields es)) mid new r → ReadsRow Whole old new r
+    ReadsValues (AreOthers Sub unknown (others_than table fields es)) mid new r → ReadsValues Whole old new r
 members_ended R table Sub unknown Whole fields done left es old mid new r parts over s a =
     let same : fields ≡ done = parts ∙ (ap (λ (z : List Field). done ++ z) over ∙ append-nil done) in
     ended (AreOthers Sub unknown (others_than table done es)) Whole old mid new r
     (subst (λ (z : List Field). SoFar (AreMembers R Sub unknown z (others_than table done es)) Whole old mid) over s)
-    (subst (λ (z : List Field). ReadsRow (AreOthers Sub unknown (others_than table z es)) mid new r) same a)
+    (subst (λ (z : List Field). ReadsValues (AreOthers Sub unknown (others_than table z es)) mid new r) same a)
 
 -- a field of a set
 pub member_read : {T : Type 0} (R : Rules) (table : List Node) (t : ℕ) (Sub : Parts → Value → Type 0)
@@ -649,13 +655,13 @@ other_read {T} e table depth unknown fields p t old new r apart is a =
     by_answer (Ok x) a = inr (apart, a)
     by_answer (Err fault) a =
         unless fault ((v : Value) → IsBody e table depth t p v → ⊥) ((is_of_field table fields p.id ≡ false) ×
-        ((v : Value) → IsOther e table depth (Some t) p v → ⊥)) (λ n. (apart, n)) a
+        ((v : Value) → IsUnknownElement e table depth (Some t) p v → ⊥)) (λ n. (apart, n)) a
 
 -- The elements of a set are its octets'.
 pub set_read_so : {T : Type 0} (e : Coding) (Sub : ℕ → Parts → Value → Type 0) (unknown : Option ℕ) (fields : List Field)
     (octets : List ℕ) (a : AreOrdered e None octets) (old new : List Item) (r : Result T Fault) →
-    ReadsRow (AreMembers (rules_of e) Sub unknown fields a.elements) old new r →
-    ReadsRow (AreSet (rules_of e) Sub unknown fields octets) old new r
+    ReadsValues (AreMembers (rules_of e) Sub unknown fields a.elements) old new r →
+    ReadsValues (AreSet (rules_of e) Sub unknown fields octets) old new r
 set_read_so e Sub unknown fields octets a old new (Ok x) b = record {
   kept = b.kept;
   holds = record { elements = a.elements; joins = a.joins; members = b.holds; order = tag_order e a.elements a.order };

@@ -9,7 +9,7 @@ use Rattle.std.proofs.lemmas.Str.{IsUtf8-append, IsUtf8-drop, IsUtf8-encode, IsC
 use lib.Utf8.{scalar}
 use Rattle.x690.specs.Characters.{code_of, Codes, BeginsWithCharacter, IsCharacterCode}
 use Rattle.x690.specs.Laws.Characters.{character_some}
-use Rattle.asn1_schema.specs.Joined.{IsFront}
+use Rattle.asn1_schema.specs.Joined.{AreWholeCharacters}
 
 -- what begins octets whole
 front_of : (a b w rest : List ℕ) → a ++ b ≡ w ++ rest → length a ≤ length w → take (length a) w ≡ a
@@ -38,7 +38,7 @@ utf8_behind xs ys v u =
 parted : (w rest : List ℕ) (n : ℕ) → w ++ rest ≡ take n w ++ (drop n w ++ rest)
 parted w rest n = ap (λ (z : List ℕ). z ++ rest) (sym (take-append-drop n w)) ∙ append_assoc (take n w) (drop n w) rest
 
-pub utf8_whole : (w : List ℕ) → IsUtf8 w → 0 < length w → IsFront IsUtf8 w (length w)
+pub utf8_whole : (w : List ℕ) → IsUtf8 w → 0 < length w → AreWholeCharacters IsUtf8 w (length w)
 utf8_whole w u some =
     let none : drop (length w) w ≡ [] =
     ap (λ (z : List ℕ). drop (length w) z) (sym (append-nil w)) ∙ drop_at w [] (length w) refl in
@@ -49,7 +49,7 @@ utf8_whole w u some =
       none = λ z rest l a. omega (arith, z, some);
     }
 
-pub utf8_part : (w : List ℕ) (n : ℕ) → IsValidUpTo w n → 0 < length w → IsFront IsUtf8 w n
+pub utf8_part : (w : List ℕ) (n : ℕ) → IsValidUpTo w n → 0 < length w → AreWholeCharacters IsUtf8 w n
 utf8_part w n v some = record {
   within = let s = v.short in omega (arith, s);
   less = λ f rest a. utf8_behind (take n w) (drop n w ++ rest) v.front (subst IsUtf8 (parted w rest n) a);
@@ -74,7 +74,7 @@ utf8_part w n v some = record {
 -- A code of characters.
 module _ (octets_of : ℕ → List ℕ) (is : IsCharacterCode octets_of) (w : List ℕ) (some : 0 < length w) where
   pub code_some : (c : ℕ) (others : List ℕ) → BeginsWithCharacter octets_of w c others →
-      IsFront (λ o. (cs : List ℕ) × Codes (code_of octets_of) o cs) w (length w - length others)
+      AreWholeCharacters (λ o. (cs : List ℕ) × Codes (code_of octets_of) o cs) w (length w - length others)
   code_some c others b = record {
     within = omega arith;
     less = λ f rest a. subst (λ (z : List ℕ). (cs : List ℕ) × Codes (code_of octets_of) (z ++ rest) cs) (sym left)
@@ -113,7 +113,7 @@ module _ (octets_of : ℕ → List ℕ) (is : IsCharacterCode octets_of) (w : Li
           (ds, (p.1, sym o.1))
 
   pub code_none : ((c : ℕ) (rest : List ℕ) → BeginsWithCharacter octets_of w c rest → ⊥) →
-      IsFront (λ o. (cs : List ℕ) × Codes (code_of octets_of) o cs) w 0
+      AreWholeCharacters (λ o. (cs : List ℕ) × Codes (code_of octets_of) o cs) w 0
   code_none n = record {
     within = omega arith;
     less = λ f rest a. absurd (omega (arith, f));
@@ -138,7 +138,7 @@ module _ (octets_of : ℕ → List ℕ) (is : IsCharacterCode octets_of) (w : Li
           })
 
 -- The first four octets of some, or all of them.
-module _ (P : List ℕ → Type 0) (all w : List ℕ) (n : ℕ) (f : IsFront P w n) (e : w ≡ take 4 all) where
+module _ (P : List ℕ → Type 0) (all w : List ℕ) (n : ℕ) (f : AreWholeCharacters P w n) (e : w ≡ take 4 all) where
   whole : all ≡ w ++ drop 4 all
   whole = sym (take-append-drop 4 all) ∙ ap (λ (z : List ℕ). z ++ drop 4 all) (sym e)
 

@@ -13,7 +13,7 @@ use Rattle.asn1_schema.specs.declared.refusal.Reason.{Reason}
 use Rattle.asn1_schema.specs.declared.refusal.Reason.TheVariants as reasons
 use Rattle.asn1_schema.specs.declared.refusal.Refusal.{Refusal}
 use Rattle.asn1_schema.specs.Sound.{node_at}
-use Rattle.asn1_schema.specs.Refusals.{IsOfType, IsOfField, IsDefault, IsTold, IsToldField, HasFieldAt, HasFieldsAt, fields_of, may_be_why}
+use Rattle.asn1_schema.specs.Refusals.{IsOfType, IsOfField, IsDefault, IsTold, IsToldField, HasFieldAt, HasFieldsAt, row_fields, may_be_why}
 
 -- what no type rules out
 pub any_tag : (n : Option Node) → IsOfType reasons.Tag n
@@ -125,7 +125,7 @@ field_here done back fields f place is at =
     ∙ slice_get_seam done back f
 
 pub fields_there : (table : List Node) (row : ℕ) (node : Node) (fields : List Field) → node_at table row ≡ Some node →
-    fields_of node.kind ≡ Some fields → HasFieldsAt table row fields
+    row_fields node.kind ≡ Some fields → HasFieldsAt table row fields
 fields_there table row node fields found kind = λ place field is.
     record { node = node; fields = fields; found = found; kind = kind; is = is }
 

@@ -16,7 +16,7 @@ use Rattle.asn1_schema.specs.Grammar.{digits_2, bits_in, trimmed, IsBitContent}
 use Rattle.asn1_schema.specs.Bits.{used_bits, first_bits}
 use Rattle.asn1_schema.specs.Rules.{strict, der}
 use Rattle.asn1_schema.specs.Tape.{of_octets, of_text, of_time, pieces, Kept, kept_leaf, kept_string, kept_bits, kept_row, kept_chosen, Mark, leaf_mark, pieces_end_mark, tape_of, value_of}
-use Rattle.asn1_schema.specs.Writing.{before, NoneAtEnd, Answers, Writes, IsContent, IsPlainBits, TakesPieces, NoPieces, BeginPieces, Pushes, PushesBits, IsPending, pending_bits, LeavesUnused, JoinsBits, PutsBitPieces}
+use Rattle.asn1_schema.specs.Writing.{before, NoneAtEnd, WritingAnswers, Writes, IsContentOfKind, IsPlainBits, TakesPieces, NoPieces, BeginPieces, Pushes, PushesBits, IsPending, pending_bits, LeavesUnused, JoinsBits, PutsBitPieces}
 use Rattle.asn1_schema.proofs.SameParts.{same_parts, same_last}
 use Rattle.asn1_schema.proofs.OneTape.{one_tape_back}
 use Rattle.asn1_schema.proofs.BitContents.{digits_length, bits_length}
@@ -178,7 +178,7 @@ pub bit_pieces_put : (tape : List Item) (start end : ℕ) (p q : Pending) (old m
     (r : Result (Unit {0}) Fault) → LeavesUnused tape start end p.count → p.number ≡ 0 →
     JoinsBits tape start end p old mid q → OnOk r (new ≡ (p.count ∷ []) ++ mid) →
     IfErr r (λ e. (e ≡ faults.Memory) × (new ≡ mid)) → IsOctets (p.count ∷ []) →
-    Answers (λ _. PutsBitPieces tape start end old new) (NoPieces bits tape start end) old new r
+    WritingAnswers (λ _. PutsBitPieces tape start end old new) (NoPieces bits tape start end) old new r
 bit_pieces_put tape start end p q old mid new (Err e) u z j ok err b = (
   λ is. absurd (is err.0),
   (j.pushes.octets, err.1 ∙ j.pushes.put),
@@ -283,7 +283,7 @@ never_bits tape at some fits n bs r e =
 
 -- what contents octets of bits say
 pub bits_said : (nodes : List Node) (depth : ℕ) (named : Bool) (o : List ℕ) (v : Value) →
-    IsContent nodes depth (kinds.Bits named) o v →
+    IsContentOfKind nodes depth (kinds.Bits named) o v →
     (bs : List Bool) × (v ≡ leaf (bits bs)) × IsBitContent strict o bs × (named ≡ true → trimmed bs ≡ bs)
 bits_said nodes depth true o v (bs, is, inl c, t) =
     (bs, is ∙ ap (λ (z : List Bool). leaf (bits z)) (t refl), c.1, t)
@@ -305,7 +305,7 @@ der_bits c bs h = record {
 pub not_trimmed : (nodes : List Node) (depth : ℕ) (named : Bool) (tape : List Item) (at : ℕ) (old new : List ℕ) (rest : ℕ) →
     named ≡ true → Writes IsPlainBits tape at old new (Ok rest) →
     ((word : List ℕ) (bs : List Bool) → new ≡ word ++ old → IsBitContent strict word bs → trimmed bs ≡ bs → ⊥) →
-    Writes (IsContent nodes depth (kinds.Bits named)) tape at old new (Err faults.Refused)
+    Writes (IsContentOfKind nodes depth (kinds.Bits named)) tape at old new (Err faults.Refused)
 not_trimmed nodes depth named tape at old new rest n w a = (
   λ f word kept front h e.
       let t = one_tape_back kept w.1.kept front (before tape rest) (sym e ∙ w.1.taken) in
@@ -319,7 +319,7 @@ not_trimmed nodes depth named tape at old new rest n w a = (
     same_bits x y e = cc
 
 pub bits_stopped : (nodes : List Node) (depth : ℕ) (named : Bool) (tape : List Item) (at : ℕ) (old new : List ℕ) (e : Fault) →
-    Writes IsPlainBits tape at old new (Err e) → Writes (IsContent nodes depth (kinds.Bits named)) tape at old new (Err e)
+    Writes IsPlainBits tape at old new (Err e) → Writes (IsContentOfKind nodes depth (kinds.Bits named)) tape at old new (Err e)
 bits_stopped nodes depth named tape at old new e w = (
   λ is word kept front h f.
       let i = bits_said nodes depth named word (value_of kept) h in

@@ -7,7 +7,7 @@ use Rattle.asn1_schema.specs.declared.schema.Kind.{Kind}
 use Rattle.asn1_schema.specs.declared.schema.Kind.TheVariants as kinds
 use Rattle.asn1_schema.specs.Values.{Value, measure}
 use Rattle.asn1_schema.specs.Grammar.{Rules, KindBody, Through, Body, IsMeasured}
-use Rattle.asn1_schema.specs.Sound.{is_sound, kind_told}
+use Rattle.asn1_schema.specs.Sound.{is_sound, kind_unambiguous}
 use Rattle.asn1_schema.proofs.Tags.{node_told, held_at}
 use Rattle.asn1_schema.proofs.Strings.{AreLawfulRules}
 use Rattle.asn1_schema.proofs.Arms.{longer, settled}
@@ -25,7 +25,7 @@ module _ (R : Rules) (lawful : AreLawfulRules R) (table : List Node) (sound : is
     node = node;
     found = found;
     tagged = held_at table node.tags a p.id
-        (subst (λ (z : Kind). kind_told table node.tags z ≡ true) is (node_told table t node sound found))
+        (subst (λ (z : Kind). kind_unambiguous table node.tags z ≡ true) is (node_told table t node sound found))
         (tag_of_body R lawful table (suc d) a p v b);
     body = subst (λ (z : Kind). KindBody R d (Body R table d) (Through R d (Body R table d) table t) z p v) (sym is) (
       longer R lawful d (Body R table d) table (suc a) t

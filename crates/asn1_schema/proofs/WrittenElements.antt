@@ -24,34 +24,36 @@ use Rattle.asn1_schema.specs.Values.{Value}
 use Rattle.asn1_schema.specs.Grammar.{is_tag_of, has_tag, KindBody, Through, Body, Word}
 use Rattle.asn1_schema.specs.Rules.{strict}
 use Rattle.asn1_schema.specs.Tape.{Mark, tape_of, value_of}
-use Rattle.asn1_schema.specs.Sound.{is_sound, is_single, are_classes, kind_told, all_told, in_order, fields_told}
-use Rattle.asn1_schema.specs.Writing.{before, NoneAtEnd, Writes, IsOneTag, constructed_of, is_tagged, plain, Nowhere, IsContent, IsFieldRow, IsFieldSet, IsList, MakesElement, id_with, Grew}
+use Rattle.asn1_schema.specs.Sound.{is_sound, is_single, are_classes, kind_unambiguous, all_unambiguous, in_order}
+use Rattle.asn1_schema.specs.Sound.{fields_unambiguous}
+use Rattle.asn1_schema.specs.Writing.{before, NoneAtEnd, Writes, IsOneTag, constructed_of, is_tagged, plain, Nowhere, IsContentOfKind, IsFieldRow, IsFieldSet, IsList, MakesElement, id_with, Grew}
 use Rattle.asn1_schema.proofs.Tags.{first_of_two, both_hold, first_holds, second_holds}
 use Rattle.asn1_schema.proofs.Tags.{node_told as kind_told_at}
 use Rattle.asn1_schema.proofs.WrittenLeaves.{writes_map}
 
 -- A sound table's types of these kinds have one tag, of a class that there is.
 
-classes_at : (table nodes : List Node) (t : ℕ) (node : Node) → all_told table nodes ≡ true →
+classes_at : (table nodes : List Node) (t : ℕ) (node : Node) → all_unambiguous table nodes ≡ true →
     slice_get nodes t ≡ Some node → are_classes node.tags ≡ true
 classes_at table [] t node told e = absurd (cc)
 classes_at table (n ∷ nodes) zero node told e =
     let same : n ≡ node = cc in
     subst (λ (z : Node). are_classes z.tags ≡ true) same
-    (first_holds (are_classes n.tags) (kind_told table n.tags n.kind)
-    (first_holds (are_classes n.tags && kind_told table n.tags n.kind) (all_told table nodes) told))
+    (first_holds (are_classes n.tags) (kind_unambiguous table n.tags n.kind)
+    (first_holds (are_classes n.tags && kind_unambiguous table n.tags n.kind) (all_unambiguous table nodes) told))
 classes_at table (n ∷ nodes) (suc t) node told e = classes_at table nodes t node
-    (second_holds (are_classes n.tags && kind_told table n.tags n.kind) (all_told table nodes) told) e
+    (second_holds (are_classes n.tags && kind_unambiguous table n.tags n.kind) (all_unambiguous table nodes) told) e
 
 pub classes_of : (table : List Node) (t : ℕ) (node : Node) → is_sound table ≡ true → slice_get table t ≡ Some node →
     are_classes node.tags ≡ true
 unfolding is_sound
 classes_of table t node sound e =
-    classes_at table table t node (first_holds (all_told table table) (in_order 0 table) sound) e
+    classes_at table table t node (first_holds (all_unambiguous table table) (in_order 0 table) sound) e
 
-single_told : (table : List Node) (ts : Tags) (kind : Kind) → is_tagged kind ≡ true → kind_told table ts kind ≡ true →
+single_told : (table : List Node) (ts : Tags) (kind : Kind) → is_tagged kind ≡ true →
+    kind_unambiguous table ts kind ≡ true →
     is_single ts ≡ true
-single_told table ts (kinds.Sequence fields unknown) g k = first_holds (is_single ts) (fields_told false table unknown fields.items) k
+single_told table ts (kinds.Sequence fields unknown) g k = first_holds (is_single ts) (fields_unambiguous false table unknown fields.items) k
 single_told table ts (kinds.Choice arms) g k = absurd (cc)
 single_told table ts (kinds.Within t lower upper) g k = absurd (cc)
 single_told table ts kinds.Any g k = absurd (cc)
@@ -64,7 +66,7 @@ single_told table ts kinds.Octets g k = k
 single_told table ts (kinds.Identifier relative) g k = k
 single_told table ts (kinds.Text kind) g k = k
 single_told table ts (kinds.Time kind) g k = k
-single_told table ts (kinds.Set fields unknown) g k = first_holds (is_single ts) (fields_told true table unknown fields.items) k
+single_told table ts (kinds.Set fields unknown) g k = first_holds (is_single ts) (fields_unambiguous true table unknown fields.items) k
 single_told table ts (kinds.SequenceOf t) g k = k
 single_told table ts (kinds.SetOf t) g k = k
 single_told table ts (kinds.Explicit t) g k = k
@@ -187,7 +189,7 @@ module _ (depth : ℕ) (Sub Same : ℕ → Parts → Value → Type 0) where
 
 body_made : (table : List Node) (depth t : ℕ) (node : Node) (tag : TypeTag) (c : List ℕ) (v : Value) →
     slice_get table t ≡ Some node → IsOneTag node.tags tag → is_tagged node.kind ≡ true →
-    IsContent table depth node.kind c v → Body strict table (suc depth) t
+    IsContentOfKind table depth node.kind c v → Body strict table (suc depth) t
     (definite_parts (id_with tag.class (constructed_of node.kind) tag.number) c) v
 unfolding Body Through
 body_made table depth t node tag c v found one some a = record {
@@ -199,7 +201,7 @@ body_made table depth t node tag c v found one some a = record {
 }
 
 body_content : (table : List Node) (depth t : ℕ) (node : Node) (p : Parts) (v : Value) → slice_get table t ≡ Some node →
-    is_tagged node.kind ≡ true → Body strict table (suc depth) t p v → IsContent table depth node.kind p.content v
+    is_tagged node.kind ≡ true → Body strict table (suc depth) t p v → IsContentOfKind table depth node.kind p.content v
 unfolding Body Through
 body_content table depth t node p v found some a =
     let same : a.node ≡ node = cc in
@@ -211,34 +213,34 @@ module _ (table : List Node) (depth t : ℕ) (node : Node) (tape : List Item) (a
     (found : slice_get table t ≡ Some node) (tagged : is_tagged node.kind ≡ true) where
   -- what is no content of a value is no element of one
   pub content_refused : (old new : List ℕ) (e : Fault) →
-      Writes (IsContent table (depth - 1) node.kind) tape at old new (Err e) →
+      Writes (IsContentOfKind table (depth - 1) node.kind) tape at old new (Err e) →
       Writes (Word strict table depth t) tape at old new (Err e)
   content_refused old new e w = (λ is word kept rest h f. by_depth depth some (w.0 is) word kept rest h f, w.1)
     where
-      by_depth : (d : ℕ) → 0 < d → NoneAtEnd (IsContent table (d - 1) node.kind) (before tape at) →
+      by_depth : (d : ℕ) → 0 < d → NoneAtEnd (IsContentOfKind table (d - 1) node.kind) (before tape at) →
           NoneAtEnd (Word strict table d t) (before tape at)
       by_depth zero l n word kept rest h e = absurd (omega (arith, l))
       by_depth (suc d) l n word kept rest h e =
           let z : suc d - 1 ≡ d = omega arith in
           n h.parts.content kept rest
-          (subst (λ (k : ℕ). IsContent table k node.kind h.parts.content (value_of kept)) (sym z)
+          (subst (λ (k : ℕ). IsContentOfKind table k node.kind h.parts.content (value_of kept)) (sym z)
           (body_content table d t node h.parts (value_of kept) found tagged h.value)) e
 
   word_made : (d : ℕ) → 0 < d → (tag : TypeTag) (c word : List ℕ) (v : Value) → IsOneTag node.tags tag →
       IsDerElement word (definite_parts (id_with tag.class (constructed_of node.kind) tag.number) c) →
-      IsContent table (d - 1) node.kind c v → Word strict table d t word v
+      IsContentOfKind table (d - 1) node.kind c v → Word strict table d t word v
   word_made zero l tag c word v one element h = absurd (omega (arith, l))
   word_made (suc d) l tag c word v one element h =
       let z : suc d - 1 ≡ d = omega arith in
       record {
         parts = definite_parts (id_with tag.class (constructed_of node.kind) tag.number) c;
         element = element;
-        value = body_made table d t node tag c v found one tagged (subst (λ (k : ℕ). IsContent table k node.kind c v) z h);
+        value = body_made table d t node tag c v found one tagged (subst (λ (k : ℕ). IsContentOfKind table k node.kind c v) z h);
       }
 
   -- what is content of a value, in an element, is a word
   pub element_written : (rest held : ℕ) (old mid new : List ℕ) (constructed : Bool) (r : Result ℕ Fault) →
-      Writes (IsContent table (depth - 1) node.kind) tape at old mid (Ok rest) →
+      Writes (IsContentOfKind table (depth - 1) node.kind) tape at old mid (Ok rest) →
       held ≡ length old → constructed ≡ constructed_of node.kind →
       IfOk r (λ n. (n ≡ rest) × ((tag : TypeTag) × IsOneTag node.tags tag ×
       MakesElement (id_with tag.class constructed tag.number) held mid new)) → IfErr r (λ e. e ≡ faults.Memory) →
@@ -267,40 +269,41 @@ module _ (table : List Node) (depth t : ℕ) (node : Node) (tape : List Item) (a
 -- a row is the contents octets of a sequence, or of a set
 pub row_written : (table : List Node) (depth : ℕ) (fields : Vec Field Global) (unknown : Option ℕ) (tape : List Item) (at : ℕ)
     (old new : List ℕ) (r : Result ℕ Fault) → Writes (IsFieldRow table depth unknown fields.items) tape at old new r →
-    Writes (IsContent table depth (kinds.Sequence fields unknown)) tape at old new r
+    Writes (IsContentOfKind table depth (kinds.Sequence fields unknown)) tape at old new r
 row_written table depth fields unknown tape at old new r w =
-    writes_map (IsFieldRow table depth unknown fields.items) (IsContent table depth (kinds.Sequence fields unknown))
+    writes_map (IsFieldRow table depth unknown fields.items)
+    (IsContentOfKind table depth (kinds.Sequence fields unknown))
     (λ o v a. (a.0, a.1, refl, a.2)) (λ o v a. (a.0, a.1, a.3)) tape at old new r w
 
 pub any_row_written : (table : List Node) (depth : ℕ) (fields : Vec Field Global) (unknown : Option ℕ)
     (tape : List Item) (at : ℕ) (old new : List ℕ) (r : Result ℕ Fault) →
     Writes (IsFieldSet table depth unknown fields.items) tape at old new r →
-    Writes (IsContent table depth (kinds.Set fields unknown)) tape at old new r
+    Writes (IsContentOfKind table depth (kinds.Set fields unknown)) tape at old new r
 any_row_written table depth fields unknown tape at old new r w =
-    writes_map (IsFieldSet table depth unknown fields.items) (IsContent table depth (kinds.Set fields unknown))
+    writes_map (IsFieldSet table depth unknown fields.items) (IsContentOfKind table depth (kinds.Set fields unknown))
     (λ o v a. (a.0, a.1, refl, a.2)) (λ o v a. (a.0, a.1, a.3)) tape at old new r w
 
 -- and a list those of one
 pub list_written : (table : List Node) (depth t : ℕ) (tape : List Item) (at : ℕ)
     (old new : List ℕ) (r : Result ℕ Fault) → Writes (IsList table depth t false) tape at old new r →
-    Writes (IsContent table depth (kinds.SequenceOf t)) tape at old new r
+    Writes (IsContentOfKind table depth (kinds.SequenceOf t)) tape at old new r
 list_written table depth t tape at old new r w =
-    writes_map (IsList table depth t false) (IsContent table depth (kinds.SequenceOf t))
+    writes_map (IsList table depth t false) (IsContentOfKind table depth (kinds.SequenceOf t))
     (λ o v a. (a.0, a.1, refl, a.2)) (λ o v a. (a.0, a.1, a.3)) tape at old new r w
 
 pub set_written : (table : List Node) (depth t : ℕ) (tape : List Item) (at : ℕ)
     (old new : List ℕ) (r : Result ℕ Fault) → Writes (IsList table depth t true) tape at old new r →
-    Writes (IsContent table depth (kinds.SetOf t)) tape at old new r
+    Writes (IsContentOfKind table depth (kinds.SetOf t)) tape at old new r
 set_written table depth t tape at old new r w =
-    writes_map (IsList table depth t true) (IsContent table depth (kinds.SetOf t))
+    writes_map (IsList table depth t true) (IsContentOfKind table depth (kinds.SetOf t))
     (λ o v a. (a.0, a.1, refl, a.2)) (λ o v a. (a.0, a.1, a.3)) tape at old new r w
 
 -- a word is the contents octets of an explicit tag
 pub explicit_written : (table : List Node) (depth t : ℕ) (tape : List Item) (at : ℕ) (old new : List ℕ)
     (r : Result ℕ Fault) → Writes (Word strict table depth t) tape at old new r →
-    Writes (IsContent table depth (kinds.Explicit t)) tape at old new r
+    Writes (IsContentOfKind table depth (kinds.Explicit t)) tape at old new r
 explicit_written table depth t tape at old new r w =
-    writes_map (Word strict table depth t) (IsContent table depth (kinds.Explicit t))
+    writes_map (Word strict table depth t) (IsContentOfKind table depth (kinds.Explicit t))
     (λ o v a. (refl, record { word = o; says = a; is = sym (append-nil o) }))
     (λ o v a. subst (λ (z : List ℕ). Word strict table depth t z v) (sym (a.1.is ∙ append-nil a.1.word)) a.1.says)
     tape at old new r w

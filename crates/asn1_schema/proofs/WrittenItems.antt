@@ -13,7 +13,7 @@ use Rattle.asn1_schema.specs.Grammar.{AreEach, Word}
 use Rattle.asn1_schema.specs.Rules.{strict}
 use Rattle.asn1_schema.specs.Sound.{is_sound}
 use Rattle.asn1_schema.specs.Tape.{Kept, KeptRow, kept_none, kept_absent, kept_more, Mark, tape_of, tapes_of, value_of, values_of}
-use Rattle.asn1_schema.specs.Writing.{before, Writes, WritesRow, members, AreCountedItems, AreCounted, order_of, FirstIs, ItemsSoFar}
+use Rattle.asn1_schema.specs.Writing.{before, Writes, WritesRow, member_count, AreCountedItems, AreCounted, order_of, FirstIs, ItemsSoFar}
 use Rattle.asn1_schema.proofs.OneTape.{one_tape_back}
 use Rattle.asn1_schema.proofs.OneWord.{one_word}
 use Rattle.asn1_schema.proofs.LastMarks.{rows_back}
@@ -39,10 +39,10 @@ record LastItems (G : List ℕ → Value → Type 0) (n : ℕ) (words : List (Li
   words_are : words ≡ front_words ++ back_words
   tapes : tapes_of ks ≡ front ++ tapes_of back
   each : AreEach G back_words (values_of back)
-  counted : members (values_of ks) ≡ n + members (values_of back)
+  counted : member_count (values_of ks) ≡ n + member_count (values_of back)
 
 last_items : (G : List ℕ → Value → Type 0) (n : ℕ) (words : List (List ℕ)) (ks : KeptRow) →
-    AreEach G words (values_of ks) → n ≤ members (values_of ks) → LastItems G n words ks
+    AreEach G words (values_of ks) → n ≤ member_count (values_of ks) → LastItems G n words ks
 last_items G zero words ks a l = record {
   front_words = [];
   back_words = words;
@@ -154,7 +154,7 @@ module _ (table : List Node) (sound : is_sound table ≡ true) (depth t : ℕ) (
       (s : ItemsSoFar table depth t ascending size left first tape at rest old mid) (some : 0 < left) where
     -- the member before those that are written
     before_last : (words : List (List ℕ)) (ks : KeptRow) (front : List Mark) → AreEach G words (values_of ks) →
-        members (values_of ks) ≡ size → before tape at ≡ front ++ tapes_of ks →
+        member_count (values_of ks) ≡ size → before tape at ≡ front ++ tapes_of ks →
         (heads : List (List ℕ)) × (w : List ℕ) × (k : Kept) × (r : List Mark) ×
         (words ≡ heads ++ (w ∷ s.words)) × G w (value_of k) × (before tape rest ≡ r ++ tape_of k)
     before_last words ks front a n e =
@@ -167,7 +167,7 @@ module _ (table : List Node) (sound : is_sound table ≡ true) (depth t : ℕ) (
       where
         one_before : (heads backs : List (List ℕ)) (ks : KeptRow) (r : List Mark) → words ≡ heads ++ backs →
             before tape at ≡ r ++ tapes_of ks → AreEach G backs (values_of ks) →
-            members (values_of ks) ≡ suc (members (values_of s.kept)) →
+            member_count (values_of ks) ≡ suc (member_count (values_of s.kept)) →
             (heads : List (List ℕ)) × (w : List ℕ) × (k : Kept) × (r : List Mark) ×
             (words ≡ heads ++ (w ∷ s.words)) × G w (value_of k) × (before tape rest ≡ r ++ tape_of k)
         one_before heads [] kept_none r is f b n = absurd (omega (arith, n))
@@ -229,7 +229,7 @@ none_written table depth n tape at old (Ok rest) ok err = (
 none_written table depth n tape at old (Err e) ok err = (
   λ is octets kept front h f.
       let a = h.1 in
-      let b = ap members h.0.1 in
+      let b = ap member_count h.0.1 in
       err (omega (arith, a, b)),
   ([], refl),
 )

@@ -5,7 +5,7 @@ use Rattle.x690.specs.Octets.{IsOctets}
 use Rattle.asn1_schema.specs.declared.fault.Fault.{Fault}
 use Rattle.asn1_schema.specs.declared.fault.Fault.TheVariants as faults
 use Rattle.asn1_schema.specs.declared.tape.Item.{Item}
-use Rattle.asn1_schema.specs.Values.{Leaf, Value, leaf}
+use Rattle.asn1_schema.specs.Values.{LeafValue, Value, leaf}
 use Rattle.asn1_schema.specs.Tape.{Kept, kept_leaf, Mark, leaf_mark, tape_of, value_of}
 use Rattle.asn1_schema.specs.Writing.{before, Grew, NoneAtEnd, Writes}
 use Rattle.asn1_schema.proofs.OneTape.{one_tape_back}
@@ -42,13 +42,13 @@ writes_map P Q f g tape at old new (Ok rest) w = (
 writes_map P Q f g tape at old new (Err e) w = (λ is o k r h t. w.0 is o k r (g o (value_of k) h) t, w.1)
 
 -- the one value at the end of a tape with a leaf
-pub one_leaf : (tape r rest : List Mark) (l : Leaf) (k : Kept) → tape ≡ r ++ leaf_mark l ∷ [] →
+pub one_leaf : (tape r rest : List Mark) (l : LeafValue) (k : Kept) → tape ≡ r ++ leaf_mark l ∷ [] →
     tape ≡ rest ++ tape_of k → value_of k ≡ leaf l
 one_leaf tape r rest l k e f = ap value_of (one_tape_back k (kept_leaf l) rest r (sym f ∙ e)).0
 
 module _ (P : List ℕ → Value → Type 0) (tape : List Item) (at : ℕ) where
   -- a leaf is written
-  pub leaf_written : (old new o : List ℕ) (l : Leaf) (result : Result ℕ Fault) → IsOctets o → P o (leaf l) →
+  pub leaf_written : (old new o : List ℕ) (l : LeafValue) (result : Result ℕ Fault) → IsOctets o → P o (leaf l) →
       (0 < at) × (before tape at ≡ before tape (at - 1) ++ leaf_mark l ∷ []) →
       MatchResult result (λ rest. (rest ≡ at - 1) × (new ≡ o ++ old)) (λ e. (e ≡ faults.Memory) × (new ≡ old)) →
       Writes P tape at old new result
@@ -67,7 +67,7 @@ module _ (P : List ℕ → Value → Type 0) (tape : List Item) (at : ℕ) where
       (λ is. absurd (is r.0), subst (λ (z : List ℕ). Grew old z) (sym r.1) (same_grew old))
 
   -- no leaf of the kind stands at the end, so no value does
-  pub no_leaf : {Y : Type 0} (made : Y → Leaf) → ((y : Y) → is_whole (made y) ≡ true) →
+  pub no_leaf : {Y : Type 0} (made : Y → LeafValue) → ((y : Y) → is_whole (made y) ≡ true) →
       ((o : List ℕ) (v : Value) → P o v → (y : Y) × (v ≡ leaf (made y))) →
       ((y : Y) (rest : List Mark) → before tape at ≡ rest ++ leaf_mark (made y) ∷ [] → ⊥) → (old : List ℕ) →
       Writes P tape at old old (Err faults.Refused)
@@ -77,7 +77,7 @@ module _ (P : List ℕ → Value → Type 0) (tape : List Item) (at : ℕ) where
       nothing s.0 rest (e ∙ ap (λ (z : Kept). rest ++ tape_of z) k))
 
   -- a leaf stands at the end that is no value
-  pub wrong_leaf : (l : Leaf) → (before tape at ≡ before tape (at - 1) ++ leaf_mark l ∷ []) →
+  pub wrong_leaf : (l : LeafValue) → (before tape at ≡ before tape (at - 1) ++ leaf_mark l ∷ []) →
       ((o : List ℕ) → P o (leaf l) → ⊥) → NoneAtEnd P (before tape at)
   wrong_leaf l e n word kept rest holds f =
       n word (subst (λ (v : Value). P word v) (one_leaf (before tape at) (before tape (at - 1)) rest l kept e f) holds)

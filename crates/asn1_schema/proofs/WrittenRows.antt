@@ -17,7 +17,7 @@ use Rattle.asn1_schema.specs.Grammar.{Says, LeftOut, MayStand, AreUnknown, AreFi
 use Rattle.asn1_schema.specs.Rules.{strict}
 use Rattle.asn1_schema.specs.Sound.{is_sound}
 use Rattle.asn1_schema.specs.Tape.{Kept, KeptRow, kept_row, kept_none, kept_absent, kept_more, Mark, begin_mark, end_mark, absent_mark, between, tape_of, tapes_of, value_of, values_of}
-use Rattle.asn1_schema.specs.Writing.{before, PutsWord, NoneAtEnd, Writes, PutsFields, NoRowAtEnd, WritesRow, NoFieldAtEnd, PutsField, WritesField, Omits, WritesDefault, members, AreCounted, WrittenSoFar, BeginsRow, row_behind}
+use Rattle.asn1_schema.specs.Writing.{before, PutsWord, NoneAtEnd, Writes, PutsFields, NoRowAtEnd, WritesRow, NoFieldAtEnd, PutsByPresence, WritesField, Omits, WritesDefault, member_count, AreCounted, WrittenSoFar, BeginsRow, row_behind}
 use Rattle.asn1_schema.proofs.OneWord.{one_word}
 use Rattle.asn1_schema.proofs.SameParts.{same_last}
 use Rattle.asn1_schema.proofs.TruncatedTapes.{length_before}
@@ -91,11 +91,11 @@ abbrev pub IsAway : (Parts → Value → Type 0) → Presence → KeptRow → (V
     List ℕ → Type 0
 IsAway S presence ks Rest tape rest mid new = (js : KeptRow) × (front : List Mark) ×
     LeftOut strict S presence (values_of js) Rest × (tape ≡ rest ++ front) × (tapes_of js ≡ front ++ tapes_of ks) ×
-    (new ≡ mid) × (members (values_of js) ≡ suc (members (values_of ks)))
+    (new ≡ mid) × (member_count (values_of js) ≡ suc (member_count (values_of ks)))
 
 pub placed : (table : List Node) → is_sound table ≡ true → (depth t : ℕ) (presence : Presence) (ks : KeptRow)
     (Rest : Values → Type 0) → Rest (values_of ks) → (tape rest : List Mark) (mid new : List ℕ) →
-    PutsField (Word strict table depth t) presence tape rest mid new →
+    PutsByPresence (Word strict table depth t) presence tape rest mid new →
     IsPut (Body strict table depth t) presence tape rest mid new ⊎
     IsAway (Body strict table depth t) presence ks Rest tape rest mid new
 placed table sound depth t presences.Required ks Rest h tape rest mid new w = inl (w, tt)
@@ -166,7 +166,7 @@ module _ (table : List Node) (depth : ℕ) (unknown : Option ℕ) where
   More f done octets ks tape rest mid new = (word : List ℕ) × (front : List Mark) × (entry : KeptRow → KeptRow) ×
       IsOctets word × Fields (f ∷ done) (word ++ octets) (values_of (entry ks)) ×
       (tape ≡ rest ++ front) × (tapes_of (entry ks) ≡ front ++ tapes_of ks) × (new ≡ word ++ mid) ×
-      (members (values_of (entry ks)) ≡ suc (members (values_of ks)))
+      (member_count (values_of (entry ks)) ≡ suc (member_count (values_of ks)))
 
   more_there : (f : Field) (done : List Field) (octets : List ℕ) (ks : KeptRow) (tape rest : List Mark) (mid new : List ℕ)
       (w : PutsWord (Word strict table depth f.of) tape rest mid new) →
@@ -186,7 +186,8 @@ module _ (table : List Node) (depth : ℕ) (unknown : Option ℕ) where
 
   more_placed : is_sound table ≡ true → (f : Field) (done : List Field) (octets : List ℕ) (ks : KeptRow)
       (tape rest : List Mark) (mid new : List ℕ) → Fields done octets (values_of ks) →
-      PutsField (Word strict table depth f.of) f.presence tape rest mid new → More f done octets ks tape rest mid new
+      PutsByPresence (Word strict table depth f.of) f.presence tape rest mid new →
+      More f done octets ks tape rest mid new
   more_placed sound f done octets ks tape rest mid new h w =
       elim (placed table sound depth f.of f.presence ks (Fields done octets) h tape rest mid new w) [
         | inl a ↦ more_there f done octets ks tape rest mid new a.0 a.1 h
@@ -226,7 +227,7 @@ module _ (table : List Node) (depth : ℕ) (unknown : Option ℕ) where
     pub rest : List ℕ
     pub tapes : tapes_of ks ≡ front ++ tapes_of (row_behind n ks)
     pub holds : Fields ys rest (values_of (row_behind n ks))
-    pub counted : members (values_of ks) ≡ n + members (values_of (row_behind n ks))
+    pub counted : member_count (values_of ks) ≡ n + member_count (values_of (row_behind n ks))
 
   pub fields_split : (xs ys : List Field) (o : List ℕ) (ks : KeptRow) → Fields (xs ++ ys) o (values_of ks) →
       Split ys (length xs) ks
@@ -291,12 +292,12 @@ module _ (table : List Node) (depth : ℕ) (unknown : Option ℕ) where
   module _ (count : ℕ) (fields left others : List Field) (f : Field) (tape : List Item) (at rest : ℕ) (old mid : List ℕ)
       (s : WrittenSoFar table depth unknown count fields left tape at rest old mid) (l : left ≡ others ++ f ∷ [])
       (nothing : NoFieldAtEnd (Word strict table depth f.of) f.presence (before tape rest)) where
-    same_rest : (ks : KeptRow) (a : List Mark) → members (values_of ks) ≡ length s.done + count →
+    same_rest : (ks : KeptRow) (a : List Mark) → member_count (values_of ks) ≡ length s.done + count →
         before tape at ≡ a ++ tapes_of ks → a ≡ before tape rest
     same_rest ks a n e = (rows_back ks s.row.kept a (before tape rest) (n ∙ sym s.row.holds.1) (sym e ∙ s.row.taken)).1
 
     last_field : (ks : KeptRow) (o : List ℕ) (a : List Mark) → before tape at ≡ a ++ tapes_of ks →
-        members (values_of ks) ≡ suc (length s.done + count) → Fields (f ∷ s.done) o (values_of ks) → ⊥
+        member_count (values_of ks) ≡ suc (length s.done + count) → Fields (f ∷ s.done) o (values_of ks) → ⊥
     last_field kept_none o a g n (inl b) = b
     last_field (kept_absent ks) o a g n (inl b) = b
     last_field (kept_more k ks) o a g n (inl b) =
@@ -305,13 +306,13 @@ module _ (table : List Node) (depth : ℕ) (unknown : Option ℕ) where
     last_field ks o a g n (inr b) =
         elim (left_parts (Sub f.of) f.presence ks (Fields s.done o) b) [
           | inl c ↦
-              let size = ap (λ (z : KeptRow). members (values_of z)) c.2 in
+              let size = ap (λ (z : KeptRow). member_count (values_of z)) c.2 in
               let t = same_rest c.0 (a ++ absent_mark ∷ []) (omega (arith, n, size))
               (g ∙ (ap (λ (z : List Mark). a ++ z) (ap tapes_of c.2)
               ∙ sym (append_assoc a (absent_mark ∷ []) (tapes_of c.0)))) in
               nothing.1 c.1 a (sym t)
           | inr c ↦
-              let size = ap (λ (z : KeptRow). members (values_of z)) c.3 in
+              let size = ap (λ (z : KeptRow). member_count (values_of z)) c.3 in
               let t = same_rest c.0 (a ++ tape_of c.1) (omega (arith, n, size))
               (g ∙ (ap (λ (z : List Mark). a ++ z) (ap tapes_of c.3)
               ∙ sym (append_assoc a (tape_of c.1) (tapes_of c.0)))) in
@@ -358,8 +359,8 @@ module _ (table : List Node) (depth : ℕ) (unknown : Option ℕ) where
 
   -- the row is counted
   pub fields_counted : (n : ℕ) (fields : List Field) (octets : List ℕ) (kept : KeptRow) →
-      IfSome unknown (λ t. n ≡ members (values_of (row_behind (length fields) kept))) → IfNone unknown (n ≡ 0) →
-      Fields fields octets (values_of kept) → members (values_of kept) ≡ length fields + n
+      IfSome unknown (λ t. n ≡ member_count (values_of (row_behind (length fields) kept))) → IfNone unknown (n ≡ 0) →
+      Fields fields octets (values_of kept) → member_count (values_of kept) ≡ length fields + n
   fields_counted n fields octets kept some nothing h =
       let u = fields_split fields [] octets kept
       (subst (λ (z : List Field). Fields z octets (values_of kept)) (sym (append-nil fields)) h) in
@@ -367,9 +368,9 @@ module _ (table : List Node) (depth : ℕ) (unknown : Option ℕ) where
       let d = by_mark unknown u.rest (values_of (row_behind (length fields) kept)) some nothing u.holds in
       omega (arith, c, d)
     where
-      by_mark : (unknown : Option ℕ) (o : List ℕ) (vs : Values) → IfSome unknown (λ t. n ≡ members vs) →
-          IfNone unknown (n ≡ 0) → AreUnknown strict Sub unknown o vs → members vs ≡ n
-      by_mark None o vs s z a = ap members a.1 ∙ sym z
+      by_mark : (unknown : Option ℕ) (o : List ℕ) (vs : Values) → IfSome unknown (λ t. n ≡ member_count vs) →
+          IfNone unknown (n ≡ 0) → AreUnknown strict Sub unknown o vs → member_count vs ≡ n
+      by_mark None o vs s z a = ap member_count a.1 ∙ sym z
       by_mark (Some t) o vs s z a = sym s
 
 -- A row ends with its end, and begins where it says.
@@ -378,7 +379,7 @@ module _ (P : List ℕ → Values → Type 0) (size : ℕ) where
   Row content v = (vs : Values) × (v ≡ row vs) × P content vs
 
   abbrev Counted : List ℕ → Values → Type 0
-  Counted octets vs = P octets vs × (members vs ≡ size)
+  Counted octets vs = P octets vs × (member_count vs ≡ size)
 
   row_inside : (word : List ℕ) (kept : Kept) (tape front : List Mark) → Row word (value_of kept) →
       tape ≡ front ++ tape_of kept → (ks : KeptRow) × P word (values_of ks) × (tape ≡ ((front ++
@@ -404,7 +405,7 @@ module _ (P : List ℕ → Values → Type 0) (size : ℕ) where
   -- how many members a row between its end and its beginning has
   abbrev Counts : List Mark → ℕ → Type 0
   Counts tape n = (octets : List ℕ) (front : List Mark) (ks : KeptRow) → P octets (values_of ks) →
-      tape ≡ front ++ tapes_of ks → length (tapes_of ks) ≡ n → members (values_of ks) ≡ size
+      tape ≡ front ++ tapes_of ks → length (tapes_of ks) ≡ n → member_count (values_of ks) ≡ size
 
   pub row_stopped : (tape : List Item) (at n : ℕ) (old new : List ℕ) (e : Fault) →
       before tape at ≡ before tape (at - 1) ++ end_mark n ∷ [] → Counts (before tape (at - 1)) n →

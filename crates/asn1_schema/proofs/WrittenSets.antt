@@ -25,7 +25,7 @@ use Rattle.asn1_schema.specs.Sound.{is_sound}
 use Rattle.asn1_schema.specs.Each.{Each}
 use Rattle.asn1_schema.specs.Members.{AreOrdered}
 use Rattle.asn1_schema.specs.Tape.{KeptRow, kept_none, kept_absent, kept_more, Mark, tape_of, tapes_of, value_of, values_of}
-use Rattle.asn1_schema.specs.Writing.{before, PutsFields, NoRowAtEnd, WritesRow, WritesField, members, AreCounted, AreCountedSet, WrittenSoFar, Settles, row_behind, Grew}
+use Rattle.asn1_schema.specs.Writing.{before, PutsFields, NoRowAtEnd, WritesRow, WritesField, member_count, AreCounted, AreCountedSet, WrittenSoFar, Settles, row_behind, Grew}
 use Rattle.asn1_schema.proofs.TakesParts.{each_left, ascend_left, each_joined}
 use Rattle.asn1_schema.proofs.OneValue.{some_octets, same_front}
 use Rattle.asn1_schema.proofs.Lawful.{strict_lawful}
@@ -130,8 +130,8 @@ module _ (table : List Node) (depth : ℕ) (unknown : Option ℕ) where
 
   -- the row is counted
   pub set_counted : (n : ℕ) (fields : List Field) (octets : List ℕ) (kept : KeptRow) →
-      IfSome unknown (λ t. n ≡ members (values_of (row_behind (length fields) kept))) → IfNone unknown (n ≡ 0) →
-      AreSet strict Sub unknown fields octets (values_of kept) → members (values_of kept) ≡ length fields + n
+      IfSome unknown (λ t. n ≡ member_count (values_of (row_behind (length fields) kept))) → IfNone unknown (n ≡ 0) →
+      AreSet strict Sub unknown fields octets (values_of kept) → member_count (values_of kept) ≡ length fields + n
   set_counted n fields octets kept some nothing h =
       let r = set_row fields octets (values_of kept) h in
       fields_counted table depth unknown n fields r.0 kept some nothing r.2
@@ -230,7 +230,7 @@ module _ (table : List Node) (depth : ℕ) (unknown : Option ℕ) where
   -- A set that ends a tape, where a row of so many of the last fields does too: the elements of these fields.
   set_end : (count : ℕ) (fields xs ys : List Field) (octets : List ℕ) (kept js : KeptRow) (tape front rest : List Mark) →
       fields ≡ xs ++ ys → AreCountedSet table depth unknown count fields octets (values_of kept) →
-      tape ≡ front ++ tapes_of kept → members (values_of js) ≡ length ys + count → tape ≡ rest ++ tapes_of js →
+      tape ≡ front ++ tapes_of kept → member_count (values_of js) ≡ length ys + count → tape ≡ rest ++ tapes_of js →
       (us : List Parts) × Members ys us (values_of js) × TagsAscend us × Each IsDefinite us
   set_end count fields xs ys octets kept js tape front rest parts holds e n g =
       let a = holds.0 in

@@ -12,9 +12,9 @@ use Rattle.asn1_schema.specs.declared.schema.Node.{Node}
 use Rattle.asn1_schema.specs.declared.schema.Kind.TheVariants as kinds
 use Rattle.asn1_schema.specs.Grammar.{IsText}
 use Rattle.asn1_schema.specs.Rules.{IsStrictTime}
-use Rattle.asn1_schema.specs.Values.{Leaf, text, time, Value, leaf, joined}
+use Rattle.asn1_schema.specs.Values.{LeafValue, text, time, Value, leaf, joined}
 use Rattle.asn1_schema.specs.Tape.{Sort, of_octets, of_text, of_time, string, pieces, Kept, kept_leaf, kept_string, kept_bits, kept_row, kept_chosen, Mark, leaf_mark, pieces_mark, pieces_end_mark, between, tape_of, value_of}
-use Rattle.asn1_schema.specs.Writing.{before, NoneAtEnd, Writes, IsContent, IsPlainString, TakesPieces, JoinsPieces, NoPieces, BeginPieces}
+use Rattle.asn1_schema.specs.Writing.{before, NoneAtEnd, Writes, IsContentOfKind, IsPlainString, TakesPieces, JoinsPieces, NoPieces, BeginPieces}
 use Rattle.asn1_schema.proofs.SameParts.{same_last}
 use Rattle.asn1_schema.proofs.OneTape.{one_tape_back}
 use Rattle.asn1_schema.proofs.TruncatedTapes.{length_before, before_truncated, truncated, last_of}
@@ -50,7 +50,7 @@ regrouped front init back m =
     ∙ ap (λ (z : List Mark). z ++ back) (sym (append_assoc front init (m ∷ [])))
 
 -- Pieces of a string with these marks, at the end of a tape.
-module _ {A : Type 0} (make : List A → Leaf) (tape : List Item) where
+module _ {A : Type 0} (make : List A → LeafValue) (tape : List Item) where
   abbrev all_marks : List (List A) → List Mark
   all_marks xs = map (λ y. leaf_mark (make y)) xs
 
@@ -190,7 +190,7 @@ end_is_no_leaf s tape r count e o q f =
     absurd (cc)
 
 -- neither end of a string stands there
-pub no_pieces_end : {A : Type 0} (make : List A → Leaf) (tape : List Mark) →
+pub no_pieces_end : {A : Type 0} (make : List A → LeafValue) (tape : List Mark) →
     ((n : ℕ) (r : List Mark) → tape ≡ r ++ pieces_end_mark n ∷ [] → ⊥) →
     (x : List A) (xs : List (List A)) (r : List Mark) → tape ≡ r ++ pieces make x xs → ⊥
 no_pieces_end make tape nothing x xs r e =
@@ -265,12 +265,12 @@ module _ (s : Sort) (P : List ℕ → Value → Type 0) (Asked : List ℕ → Ty
 
 -- contents octets of character strings and of times
 pub text_said : (nodes : List Node) (depth : ℕ) (kind : TextKind) (o : List ℕ) (v : Value) →
-    IsContent nodes depth (kinds.Text kind) o v → IsPlainString (of_text kind) o v × IsText kind o
+    IsContentOfKind nodes depth (kinds.Text kind) o v → IsPlainString (of_text kind) o v × IsText kind o
 text_said nodes depth kind o v (x, is, inl c, t) = (is ∙ ap (λ (z : List ℕ). leaf (text kind z)) c.1, subst (IsText kind) c.1 t)
 text_said nodes depth kind o v (x, is, inr c, t) = absurd (let f = c.0 in cc)
 
 pub time_said : (nodes : List Node) (depth : ℕ) (kind : TimeKind) (o : List ℕ) (v : Value) →
-    IsContent nodes depth (kinds.Time kind) o v → IsPlainString (of_time kind) o v × IsStrictTime kind o
+    IsContentOfKind nodes depth (kinds.Time kind) o v → IsPlainString (of_time kind) o v × IsStrictTime kind o
 time_said nodes depth kind o v (x, is, inl c, t) =
     (is ∙ ap (λ (z : List ℕ). leaf (time kind z)) c.1, subst (IsStrictTime kind) c.1 t)
 time_said nodes depth kind o v (x, is, inr c, t) = absurd (let f = c.0 in cc)

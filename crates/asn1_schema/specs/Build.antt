@@ -57,9 +57,9 @@ AreParts (p ∷ ps) (f ∷ fs) = (f.of ≡ p.of) × IsPresence p.omission f.pres
 AreParts _ _ = ⊥
 
 -- a sequence of these fields, and of such unknown elements
-abbrev pub IsRow : List Part → Option ℕ → Kind → Type 0
-IsRow parts unknown (kinds.Sequence fields u) = AreParts parts fields.items × (u ≡ unknown)
-IsRow parts unknown _ = ⊥
+abbrev pub IsSequenceRow : List Part → Option ℕ → Kind → Type 0
+IsSequenceRow parts unknown (kinds.Sequence fields u) = AreParts parts fields.items × (u ≡ unknown)
+IsSequenceRow parts unknown _ = ⊥
 
 -- a set of these fields, and of such unknown elements
 abbrev pub IsSetRow : List Part → Option ℕ → Kind → Type 0
@@ -72,9 +72,9 @@ IsChoiceOf places (kinds.Choice arms) = arms.items ≡ places
 IsChoiceOf places _ = ⊥
 
 -- one of these numbers, or any where it is extensible
-abbrev pub IsListed : List PartName → Bool → Kind → Type 0
-IsListed numbers extensible (kinds.Enumerated ns e) = (ns.items ≡ map (λ l. l.number) numbers) × (e ≡ extensible)
-IsListed numbers extensible _ = ⊥
+abbrev pub IsEnumerated : List PartName → Bool → Kind → Type 0
+IsEnumerated numbers extensible (kinds.Enumerated ns e) = (ns.items ≡ map (λ l. l.number) numbers) × (e ≡ extensible)
+IsEnumerated numbers extensible _ = ⊥
 
 -- the number of the universal tag of a character string (X.680 table 8)
 abbrev pub text_number : TextKind → ℕ
@@ -138,7 +138,7 @@ IsRetagged of inner (kinds.Within t l u) k = k ≡ kinds.Within inner l u
 IsRetagged of inner same k = k ≡ same
 
 -- The type at a place was put behind the others under a tag, with what it bounds right before it.
-pub record IsUnder (old new : List Node) (place : ℕ) (tag : TypeTag) (of : ℕ) : Type 0 where
+pub record IsPutUnderTag (old new : List Node) (place : ℕ) (tag : TypeTag) (of : ℕ) : Type 0 where
   pub was : Node
   pub node : Node
   pub known : slice_get old of ≡ Some was
@@ -169,8 +169,8 @@ Puts old new P (Ok place) = IsAdded old new place P
 Puts old new P (Err e) = new ≡ old
 
 -- an identifier has one of the tags just where this is so
-abbrev pub Tells : (Identifier → Bool) → Tags → Type 0
-Tells P ts = (id : Identifier) → has_tag ts id ≡ P id
+abbrev pub Decides : (Identifier → Bool) → Tags → Type 0
+Decides P ts = (id : Identifier) → has_tag ts id ≡ P id
 
 -- the identifier has a tag of the type at a place
 abbrev pub node_has_tag : Identifier → Option Node → Bool
@@ -185,7 +185,7 @@ has_tag_of table places id = list_any (has_tag_at table id) places
 
 -- the tags are those of the types at these places
 abbrev pub AreTagsOf : List Node → List ℕ → Tags → Type 0
-AreTagsOf table places = Tells (has_tag_of table places)
+AreTagsOf table places = Decides (has_tag_of table places)
 
 abbrev pub is_omissible : Omission → Bool
 is_omissible omissions.Never = false
@@ -206,7 +206,7 @@ last_places (p ∷ ps) =
 pub record IsAddedOpen (old new : List Node) (place : ℕ) (told : List ℕ) (P : ℕ → Node → Type 0) : Type 0 where
   pub unknown : Node
   pub is_any : unknown.kind ≡ kinds.Any
-  pub apart : Tells (λ id. not (has_tag_of old told id || is_tag_of id (universal 0))) unknown.tags
+  pub apart : Decides (λ id. not (has_tag_of old told id || is_tag_of id (universal 0))) unknown.tags
   pub added : IsAdded (old ++ unknown ∷ []) new place (P (length old))
 
 -- These two are put behind the others; or the table stays, or has the first of them.

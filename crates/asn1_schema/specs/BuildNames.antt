@@ -36,8 +36,8 @@ abbrev pub HasLabels : List ℕ → List PartName → TypeNames → Type 0
 HasLabels name labels = HasNames name (map label_of labels)
 
 -- the name of a sequence or a set, and those of its parts with their places
-abbrev pub HasParts : List ℕ → List Part → TypeNames → Type 0
-HasParts name parts = HasNames name (placed_from 0 (map (λ p. p.name.now) parts))
+abbrev pub HasPartNames : List ℕ → List Part → TypeNames → Type 0
+HasPartNames name parts = HasNames name (placed_from 0 (map (λ p. p.name.now) parts))
 
 -- the name of a choice, and those of its arms with their places
 abbrev pub HasArms : List ℕ → List ChoiceArm → TypeNames → Type 0
@@ -88,5 +88,5 @@ pub record AreDefined (old new : List TypeNames) (place of : ℕ) : Type 0 where
   pub all : new ≡ slice_set old place names
 
 -- each type has its names beside it
-abbrev pub IsNamed : Schema → Type 0
-IsNamed schema = length schema.names.items ≡ length schema.nodes.items
+abbrev pub HasNamesBeside : Schema → Type 0
+HasNamesBeside schema = length schema.names.items ≡ length schema.nodes.items

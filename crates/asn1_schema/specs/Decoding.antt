@@ -5,7 +5,7 @@ use Rattle.x690.specs.Joined.{NoPrefix}
 use Rattle.x690.specs.Elements.{Parts, BeginsWithElement}
 use Rattle.x690.specs.Identifiers.{IsTruncatedIdentifier}
 use Rattle.x690.specs.Nested.{EndsInIdentifier}
-use Rattle.asn1_headers.specs.Answers.{Front}
+use Rattle.asn1_headers.specs.Answers.{HasPrefix}
 use Rattle.asn1_schema.specs.declared.coding.Coding.{Coding}
 use Rattle.asn1_schema.specs.declared.coding.Coding.TheVariants as codings
 use Rattle.asn1_schema.specs.declared.decode.DecodeError.{DecodeError}
@@ -21,7 +21,7 @@ use Rattle.asn1_schema.specs.Tape.{Kept, marks, value_of, tape_of}
 -- A word of the grammar begins the octets, and this is the rest. The tape is that of the value of the word.
 pub record Decodes (G : List ℕ → Value → Type 0) (octets rest : List ℕ) (tape : List Item) : Type 0 where
   pub kept : Kept
-  pub front : Front G octets (value_of kept) rest
+  pub front : HasPrefix G octets (value_of kept) rest
   pub is : marks tape ≡ tape_of kept
 
 -- The octets are a word of the grammar, and the tape is that of its value.
@@ -34,7 +34,7 @@ pub record DecodesWhole (G : List ℕ → Value → Type 0) (octets : List ℕ) 
 pub record IsFollowed (G : List ℕ → Value → Type 0) (octets : List ℕ) : Type 0 where
   pub value : Value
   pub rest : List ℕ
-  pub front : Front G octets value rest
+  pub front : HasPrefix G octets value rest
   pub some : rest ≢ []
 
 -- No word of the grammar begins the octets, whatever follows, but where they end within identifier octets.
@@ -63,9 +63,9 @@ pub record Fails {T : Type 0} (table : List Node) (G : ℕ → List ℕ → Valu
   pub told : IsErrOf result errors.Refused → IsTold table None refusal
 
 -- The octets end within the identifier octets of an element (X.690 8.1.2.4), by BER of one that is nested.
-abbrev pub EndsWithin : Coding → List ℕ → Type 0
-EndsWithin codings.Der octets = IsTruncatedIdentifier octets
-EndsWithin (codings.Ber max) octets = EndsInIdentifier max octets
+abbrev pub IsTruncatedByCoding : Coding → List ℕ → Type 0
+IsTruncatedByCoding codings.Der octets = IsTruncatedIdentifier octets
+IsTruncatedByCoding (codings.Ber max) octets = EndsInIdentifier max octets
 
 -- So many octets are missing of the element at the front; or it is whole; or none begins the octets, whatever follows.
 abbrev pub TellsMissing : (List ℕ → Parts → Type 0) → Type 0 → List ℕ → Option ℕ → Type 0

@@ -31,5 +31,5 @@ pub record HasOther (table : List Node) (depth of : ℕ) (octets : List ℕ) (n 
   pub differs : FirstDiffer octets other (Some n)
 
 -- the value has no strict encoding
-abbrev pub HasNone : List Node → ℕ → ℕ → Value → Type 0
-HasNone table depth of v = (other : List ℕ) → Word strict table depth of other v → ⊥
+abbrev pub HasNoEncoding : List Node → ℕ → ℕ → Value → Type 0
+HasNoEncoding table depth of v = (other : List ℕ) → Word strict table depth of other v → ⊥

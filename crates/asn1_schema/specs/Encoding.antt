@@ -1,6 +1,6 @@
 -- What the encoder answers.
 use Rattle.std.specs.Prelude.{ℕ, List, [], ◌++◌, ◌≡◌, Result}
-use Rattle.asn1_headers.specs.Answers.{Front}
+use Rattle.asn1_headers.specs.Answers.{HasPrefix}
 use Rattle.asn1_headers.specs.Writer.{WriterState, Wrote}
 use Rattle.asn1_headers.specs.declared.error.SerializeError.{SerializeError}
 use Rattle.asn1_schema.specs.declared.tape.Item.{Item}
@@ -30,5 +30,5 @@ IsOfNoWord G tape = (word : List ℕ) (kept : Kept) → G word (value_of kept) �
 pub record IsReadAs (G : List ℕ → Value → Type 0) (tape : List Item) (octets rest : List ℕ) : Type 0 where
   pub kept : Kept
   pub is : marks tape ≡ tape_of kept
-  pub front : Front G octets (value_of kept) rest
-  pub only : (v : Value) (others : List ℕ) → Front G octets v others → (v ≡ value_of kept) × (others ≡ rest)
+  pub front : HasPrefix G octets (value_of kept) rest
+  pub only : (v : Value) (others : List ℕ) → HasPrefix G octets v others → (v ≡ value_of kept) × (others ≡ rest)

@@ -21,7 +21,7 @@ said j = j.front.now ++ all_octets (marks j.others.now)
 
 -- So many octets at the front of some are whole characters. Where there are none, none stand there, whatever follows,
 -- if the octets are four or nothing follows.
-pub record IsFront (P : List ℕ → Type 0) (octets : List ℕ) (count : ℕ) : Type 0 where
+pub record AreWholeCharacters (P : List ℕ → Type 0) (octets : List ℕ) (count : ℕ) : Type 0 where
   pub within : count ≤ length octets
   pub less : 0 < count → (rest : List ℕ) → P (octets ++ rest) → P (drop count octets ++ rest)
   pub more : 0 < count → (rest : List ℕ) → P (drop count octets ++ rest) → P (octets ++ rest)

@@ -21,7 +21,7 @@ use Rattle.asn1_schema.specs.Rules.{IsTagBefore, AscendBehind, ArbitraryTags}
 use Rattle.asn1_schema.specs.Sound.{HasTagAt}
 use Rattle.asn1_schema.specs.Build.{has_tag_at}
 use Rattle.asn1_schema.specs.Each.{Each}
-use Rattle.asn1_schema.specs.Reading.{rules_of, id_of, parts_of, IsBody, UnlessMemory, PutsValue, Leaves, MayNot}
+use Rattle.asn1_schema.specs.Reading.{rules_of, id_of, head_parts, IsBody, UnlessMemory, PutsValue, PutsLeftOut, MayNot}
 
 -- the octets are elements with these parts
 abbrev pub AreElements : Coding → List ℕ → List Parts → Type 0
@@ -59,7 +59,7 @@ pub record FindsFirst (e : Coding) (table : List Node) (t : ℕ) (es : List Part
   pub behind : AreElements e rest back
 
 -- two elements have a tag of the type
-pub record AreTwo (table : List Node) (t : ℕ) (es : List Parts) : Type 0 where
+pub record HaveTagTwice (table : List Node) (t : ℕ) (es : List Parts) : Type 0 where
   pub one : Parts
   pub others : List Parts
   pub takes : Takes es one others
@@ -76,10 +76,10 @@ pub record IsAlone (table : List Node) (t : ℕ) (es : List Parts) (p : Parts) :
   pub tagged : HasTagAt table t p.id
   pub alone : Each (Lacks table t) others
 
-abbrev pub Finds : List Node → ℕ → List Parts → Found → Type 0
-Finds table t es founds.Nothing = Each (Lacks table t) es
-Finds table t es (founds.One head content) = IsAlone table t es (parts_of head content.now)
-Finds table t es (founds.Several place) = AreTwo table t es
+abbrev pub FindsTagged : List Node → ℕ → List Parts → Found → Type 0
+FindsTagged table t es founds.Nothing = Each (Lacks table t) es
+FindsTagged table t es (founds.One head content) = IsAlone table t es (head_parts head content.now)
+FindsTagged table t es (founds.Several place) = HaveTagTwice table t es
 
 -- whether one of the fields has a type with this tag
 abbrev pub is_of_field : List Node → List Field → Identifier → Bool
@@ -92,7 +92,7 @@ others_than table fs es = filter (λ p. not (is_of_field table fs p.id)) es
 -- what is put for a field that is left out
 abbrev pub ReadsLeftOut : {T : Type 0} → Rules → (Parts → Value → Type 0) → Presence → List Item → List Item →
     Result T Fault → Type 0
-ReadsLeftOut R Sub presence old new (Ok x) = Leaves R Sub presence old new
+ReadsLeftOut R Sub presence old new (Ok x) = PutsLeftOut R Sub presence old new
 ReadsLeftOut R Sub presence old new (Err e) = UnlessMemory e (MayNot R Sub presence)
 
 -- the value of the one element with a tag of the type is put
@@ -110,13 +110,13 @@ pub record HasNoValue (table : List Node) (t : ℕ) (Sub : Parts → Value → T
 
 -- There is no element, or more than one, or one without a value. Where there is none the field may not be left out.
 abbrev pub HasNoMember : Rules → List Node → ℕ → (Parts → Value → Type 0) → Presence → List Parts → Type 0
-HasNoMember R table t Sub presence es = AreTwo table t es ⊎ HasNoValue table t Sub es ⊎
+HasNoMember R table t Sub presence es = HaveTagTwice table t es ⊎ HasNoValue table t Sub es ⊎
     (Each (Lacks table t) es × MayNot R Sub presence)
 
 abbrev pub ReadsMember : {T : Type 0} → Rules → List Node → ℕ → (Parts → Value → Type 0) → Presence → List Parts →
     List Item → List Item → Result T Fault → Type 0
 ReadsMember R table t Sub presence es old new (Ok x) =
-    PutsMember table t Sub es old new ⊎ (Each (Lacks table t) es × Leaves R Sub presence old new)
+    PutsMember table t Sub es old new ⊎ (Each (Lacks table t) es × PutsLeftOut R Sub presence old new)
 ReadsMember R table t Sub presence es old new (Err e) = UnlessMemory e (HasNoMember R table t Sub presence es)
 
 -- the elements are those of fields, and unknown ones
@@ -127,18 +127,18 @@ abbrev pub AreOthersOf : Coding → List Node → ℕ → Option ℕ → List Pa
 AreOthersOf e table depth = AreOthers (IsBody e table depth)
 
 -- an element that is of no field, where there is an extension mark
-abbrev pub IsOther : Coding → List Node → ℕ → Option ℕ → Parts → Value → Type 0
-IsOther e table depth None p v = ⊥
-IsOther e table depth (Some t) p v = IsBody e table depth t p v
+abbrev pub IsUnknownElement : Coding → List Node → ℕ → Option ℕ → Parts → Value → Type 0
+IsUnknownElement e table depth None p v = ⊥
+IsUnknownElement e table depth (Some t) p v = IsBody e table depth t p v
 
 -- an element of no field is put
 abbrev pub ReadsOther : {T : Type 0} → Coding → List Node → ℕ → Option ℕ → List Field → Parts → List Item → List Item →
     Result T Fault → Type 0
 ReadsOther e table depth unknown fields p old new (Ok x) =
     ((is_of_field table fields p.id ≡ true) × (new ≡ old)) ⊎
-    ((is_of_field table fields p.id ≡ false) × PutsValue (IsOther e table depth unknown p) old new)
+    ((is_of_field table fields p.id ≡ false) × PutsValue (IsUnknownElement e table depth unknown p) old new)
 ReadsOther e table depth unknown fields p old new (Err fault) = UnlessMemory fault
-    ((is_of_field table fields p.id ≡ false) × ((v : Value) → IsOther e table depth unknown p v → ⊥))
+    ((is_of_field table fields p.id ≡ false) × ((v : Value) → IsUnknownElement e table depth unknown p v → ⊥))
 
 abbrev pub AreSetOf : Coding → List Node → ℕ → Option ℕ → List Field → List ℕ → Values → Type 0
 AreSetOf e table depth = AreSet (rules_of e) (IsBody e table depth)

@@ -22,24 +22,24 @@ lent (items.Any class constructed number r) = r.now
 lent _ = []
 
 -- what an item is with other octets
-abbrev pub filled : Item → List ℕ → Mark
-filled (items.Integer r) o = leaf_mark (integer (twos_complement_value o))
-filled (items.Enumerated r) o = leaf_mark (enumerated (twos_complement_value o))
-filled (items.Bits unused r) o = leaf_mark (bits (take (8 * length o - unused) (bits_in o)))
-filled (items.Octets r) o = leaf_mark (octets o)
-filled (items.Identifier relative r) o = leaf_mark (identifier relative o)
-filled (items.Text kind r) o = leaf_mark (text kind o)
-filled (items.Time kind r) o = leaf_mark (time kind o)
-filled (items.Any class constructed number r) o =
+abbrev pub item_with_octets : Item → List ℕ → Mark
+item_with_octets (items.Integer r) o = leaf_mark (integer (twos_complement_value o))
+item_with_octets (items.Enumerated r) o = leaf_mark (enumerated (twos_complement_value o))
+item_with_octets (items.Bits unused r) o = leaf_mark (bits (take (8 * length o - unused) (bits_in o)))
+item_with_octets (items.Octets r) o = leaf_mark (octets o)
+item_with_octets (items.Identifier relative r) o = leaf_mark (identifier relative o)
+item_with_octets (items.Text kind r) o = leaf_mark (text kind o)
+item_with_octets (items.Time kind r) o = leaf_mark (time kind o)
+item_with_octets (items.Any class constructed number r) o =
     leaf_mark (any (record { class = class; constructed = constructed; number = number }) o)
-filled item o = mark item
+item_with_octets item o = mark item
 
 -- so many octets from a place on
 abbrev pub span : List ℕ → ℕ → ℕ → List ℕ
 span o start len = take len (drop start o)
 
 abbrev pub placed_mark : List ℕ → Placed → Mark
-placed_mark o p = filled p.shape (span o p.start p.len)
+placed_mark o p = item_with_octets p.shape (span o p.start p.len)
 
 -- what stands on an owned tape, if its octets were more
 abbrev pub owned_with : OwnedTape → List ℕ → List Mark

@@ -7,7 +7,7 @@ use Rattle.asn1_schema.specs.declared.coding.Coding.{Coding}
 use Rattle.asn1_schema.specs.declared.tape.Item.{Item}
 use Rattle.asn1_schema.specs.declared.pieces.Sort.{Sort}
 use Rattle.asn1_schema.specs.declared.pieces.Sort.TheVariants as sorts
-use Rattle.asn1_schema.specs.Values.{Leaf, bits, octets, text, time, Value, leaf, joined}
+use Rattle.asn1_schema.specs.Values.{LeafValue, bits, octets, text, time, Value, leaf, joined}
 use Rattle.asn1_schema.specs.Grammar.{StringOf, Says, AllButLast, IsUniversal, IsString, IsText, of_octets, of_bits}
 use Rattle.asn1_schema.specs.Tape.{Kept, Mark, mark, marks, leaf_mark, value_of, tape_of}
 use Rattle.asn1_schema.specs.Reading.{rules_of, UnlessMemory}
@@ -19,7 +19,7 @@ Elem (sorts.Text kind) = ℕ
 Elem (sorts.Time kind) = ℕ
 Elem sorts.Bits = Bool
 
-abbrev pub leaf_of : (s : Sort) → List (Elem s) → Leaf
+abbrev pub leaf_of : (s : Sort) → List (Elem s) → LeafValue
 leaf_of sorts.Octets o = octets o
 leaf_of (sorts.Text kind) o = text kind o
 leaf_of (sorts.Time kind) o = time kind o

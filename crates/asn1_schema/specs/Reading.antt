@@ -16,7 +16,7 @@ use Rattle.asn1_schema.specs.declared.coding.Coding.{Coding}
 use Rattle.asn1_schema.specs.declared.coding.Coding.TheVariants as codings
 use Rattle.asn1_schema.specs.declared.elements.Head.{Head}
 use Rattle.asn1_schema.specs.declared.tape.Item.{Item}
-use Rattle.asn1_schema.specs.Values.{Leaf, enumerated, Value, Values, leaf, row, chosen, measure}
+use Rattle.asn1_schema.specs.Values.{LeafValue, enumerated, Value, Values, leaf, row, chosen, measure}
 use Rattle.asn1_schema.specs.Grammar.{Rules, Says, Begins, AreItems, AnyOrder, AreFields, KindBody, Through, Body, Word, IsMeasured}
 use Rattle.asn1_schema.specs.Rules.{der, ber}
 use Rattle.asn1_schema.specs.Sound.{HasTagAt}
@@ -31,13 +31,13 @@ rules_of (codings.Ber max) = ber max
 abbrev pub id_of : Head → Identifier
 id_of head = record { class = head.class; constructed = head.constructed; number = head.number }
 
-abbrev pub form_of : Bool → ℕ → LengthForm
-form_of true n = indefinite
-form_of false n = definite n
+abbrev pub form_of_length : Bool → ℕ → LengthForm
+form_of_length true n = indefinite
+form_of_length false n = definite n
 
-abbrev pub parts_of : Head → List ℕ → Parts
-parts_of head content =
-    record { id = id_of head; form = form_of head.indefinite (length content); content = content }
+abbrev pub head_parts : Head → List ℕ → Parts
+head_parts head content =
+    record { id = id_of head; form = form_of_length head.indefinite (length content); content = content }
 
 -- An element of the type at a place of the table, and one of a kind that stands there.
 
@@ -98,7 +98,7 @@ Admits P (Err e) = UnlessMemory e (P → ⊥)
 
 -- A leaf with this property is the item; or there is no value with it.
 abbrev pub Judges : (Value → Type 0) → Result Item Fault → Type 0
-Judges P (Ok item) = (l : Leaf) × (mark item ≡ leaf_mark l) × P (leaf l)
+Judges P (Ok item) = (l : LeafValue) × (mark item ≡ leaf_mark l) × P (leaf l)
 Judges P (Err e) = UnlessMemory e ((v : Value) → P v → ⊥)
 
 -- a value with this property was put on the tape
@@ -113,17 +113,17 @@ ReadsValue P old new (Ok x) = PutsValue P old new
 ReadsValue P old new (Err e) = UnlessMemory e ((v : Value) → P v → ⊥)
 
 -- values of fields, or of a list
-pub record PutsRow (P : Values → Type 0) (old new : List Item) : Type 0 where
+pub record PutsValues (P : Values → Type 0) (old new : List Item) : Type 0 where
   pub kept : KeptRow
   pub holds : P (values_of kept)
   pub is : marks new ≡ marks old ++ tapes_of kept
 
-abbrev pub ReadsRow : {T : Type 0} → (Values → Type 0) → List Item → List Item → Result T Fault → Type 0
-ReadsRow P old new (Ok x) = PutsRow P old new
-ReadsRow P old new (Err e) = UnlessMemory e ((vs : Values) → P vs → ⊥)
+abbrev pub ReadsValues : {T : Type 0} → (Values → Type 0) → List Item → List Item → Result T Fault → Type 0
+ReadsValues P old new (Ok x) = PutsValues P old new
+ReadsValues P old new (Err e) = UnlessMemory e ((vs : Values) → P vs → ⊥)
 
 -- a value, before this rest
-pub record PutsFront (P : Value → List ℕ → Type 0) (old new : List Item) (rest : List ℕ) : Type 0 where
+pub record PutsPrefix (P : Value → List ℕ → Type 0) (old new : List Item) (rest : List ℕ) : Type 0 where
   pub kept : Kept
   pub holds : P (value_of kept) rest
   pub is : marks new ≡ marks old ++ tape_of kept
@@ -132,9 +132,9 @@ pub record PutsFront (P : Value → List ℕ → Type 0) (old new : List Item) (
 abbrev pub HasNoPrefix : (Value → List ℕ → Type 0) → Type 0
 HasNoPrefix P = (v : Value) (rest : List ℕ) → P v rest → ⊥
 
-abbrev pub ReadsFront : (Value → List ℕ → Type 0) → List Item → List Item → Result (Bor (List ℕ)) Fault → Type 0
-ReadsFront P old new (Ok rest) = PutsFront P old new rest.now
-ReadsFront P old new (Err e) = UnlessMemory e (HasNoPrefix P)
+abbrev pub ReadsPrefix : (Value → List ℕ → Type 0) → List Item → List Item → Result (Bor (List ℕ)) Fault → Type 0
+ReadsPrefix P old new (Ok rest) = PutsPrefix P old new rest.now
+ReadsPrefix P old new (Err e) = UnlessMemory e (HasNoPrefix P)
 
 -- an element with a tag of the type at a place begins the octets
 pub record BeginsTagged (R : Rules) (table : List Node) (t : ℕ) (octets : List ℕ) : Type 0 where
@@ -146,15 +146,15 @@ pub record BeginsTagged (R : Rules) (table : List Node) (t : ℕ) (octets : List
   pub tagged : HasTagAt table t parts.id
 
 -- what is put where a field is left out: that it is, or the default
-abbrev pub Leaves : Rules → (Parts → Value → Type 0) → Presence → List Item → List Item → Type 0
-Leaves R Sub presences.Required old new = ⊥
-Leaves R Sub presences.Optional old new = marks new ≡ marks old ++ absent_mark ∷ []
-Leaves R Sub (presences.Default d) old new = PutsValue (Says R Sub d.items) old new
+abbrev pub PutsLeftOut : Rules → (Parts → Value → Type 0) → Presence → List Item → List Item → Type 0
+PutsLeftOut R Sub presences.Required old new = ⊥
+PutsLeftOut R Sub presences.Optional old new = marks new ≡ marks old ++ absent_mark ∷ []
+PutsLeftOut R Sub (presences.Default d) old new = PutsValue (Says R Sub d.items) old new
 
 pub record LeavesOut (R : Rules) (Sub : Parts → Value → Type 0) (presence : Presence) (octets : List ℕ)
     (old new : List Item) (rest : List ℕ) : Type 0 where
   pub stays : rest ≡ octets
-  pub left : Leaves R Sub presence old new
+  pub left : PutsLeftOut R Sub presence old new
   pub none : HasNoPrefix (Begins R Sub octets)
 
 -- a field may not be left out
@@ -169,11 +169,11 @@ pub record IsMissing (R : Rules) (Sub : Parts → Value → Type 0) (Tagged : Ty
   pub none : HasNoPrefix (Begins R Sub octets)
   pub why : Tagged ⊎ MayNot R Sub presence
 
-abbrev pub ReadsField : Rules → (Parts → Value → Type 0) → Type 0 → Presence → List ℕ → List Item → List Item →
+abbrev pub ReadsByPresence : Rules → (Parts → Value → Type 0) → Type 0 → Presence → List ℕ → List Item → List Item →
     Result (Bor (List ℕ)) Fault → Type 0
-ReadsField R Sub Tagged presence octets old new (Ok rest) =
-    PutsFront (Begins R Sub octets) old new rest.now ⊎ LeavesOut R Sub presence octets old new rest.now
-ReadsField R Sub Tagged presence octets old new (Err e) =
+ReadsByPresence R Sub Tagged presence octets old new (Ok rest) =
+    PutsPrefix (Begins R Sub octets) old new rest.now ⊎ LeavesOut R Sub presence octets old new rest.now
+ReadsByPresence R Sub Tagged presence octets old new (Err e) =
     UnlessMemory e (IsMissing R Sub Tagged presence octets)
 
 -- A measure is within bounds; or it is not.

@@ -36,9 +36,9 @@ has_contents (kinds.SetOf t) = false
 has_contents (kinds.Explicit t) = false
 has_contents _ = true
 
-abbrev pub is_within : Kind → Bool
-is_within (kinds.Within t lower upper) = true
-is_within _ = false
+abbrev pub is_bounds : Kind → Bool
+is_bounds (kinds.Within t lower upper) = true
+is_bounds _ = false
 
 abbrev pub is_set : Kind → Bool
 is_set (kinds.Set fields unknown) = true
@@ -51,7 +51,7 @@ may_be_why reasons.Depth kind = false
 may_be_why reasons.MissingType kind = false
 may_be_why reasons.Form kind = has_elements kind
 may_be_why reasons.Contents kind = has_contents kind
-may_be_why reasons.Bounds kind = is_within kind
+may_be_why reasons.Bounds kind = is_bounds kind
 may_be_why reasons.Order kind = is_set kind
 may_be_why _ kind = true
 
@@ -75,17 +75,17 @@ IsOfField reasons.Repeated of None = ⊥
 IsOfField _ of field = Unit {0}
 
 -- the fields of a sequence or a set
-abbrev pub fields_of : Kind → Option (List Field)
-fields_of (kinds.Sequence fields unknown) = Some fields.items
-fields_of (kinds.Set fields unknown) = Some fields.items
-fields_of _ = None
+abbrev pub row_fields : Kind → Option (List Field)
+row_fields (kinds.Sequence fields unknown) = Some fields.items
+row_fields (kinds.Set fields unknown) = Some fields.items
+row_fields _ = None
 
 -- The type at a place of the table is a sequence or a set with this field at this place.
 pub record HasFieldAt (table : List Node) (row place : ℕ) (field : Field) : Type 0 where
   pub node : Node
   pub fields : List Field
   pub found : node_at table row ≡ Some node
-  pub kind : fields_of node.kind ≡ Some fields
+  pub kind : row_fields node.kind ≡ Some fields
   pub is : slice_get fields place ≡ Some field
 
 -- The fields are of the type at a place of the table.

@@ -35,8 +35,8 @@ IsFraction o = (o ≡ []) ⊎ ((point : ℕ) × (octets : List ℕ) × ((point �
     AllIn is_ascii_digit octets × (o ≡ point ∷ octets))
 
 -- nothing, Z, or hours and maybe minutes ahead of UTC or behind it
-abbrev pub IsZone : Moment → List ℕ → Type 0
-IsZone m o = SaysZoneOrNone o m.zone ⊎
+abbrev pub SaysAnyZone : Moment → List ℕ → Type 0
+SaysAnyZone m o = SaysZoneOrNone o m.zone ⊎
     ((sign hours : ℕ) × ((sign ≡ 43) ⊎ (sign ≡ 45)) × (hours < 100) × (o ≡ sign ∷ digits 2 hours))
 
 -- the text of a time: seconds may be left out (X.680 47.3); minutes too, and then has the last part a fraction (46.2, 46.3)
@@ -46,7 +46,7 @@ IsTime times.Utc o = (m : Moment) × (seconds zone : List ℕ) × (m.year < 100)
     (o ≡ digits 2 m.year ++ to_minute m ++ seconds ++ zone)
 IsTime times.Generalized o = (m : Moment) × (minutes fraction zone : List ℕ) × (m.year < 10000) × InRange m ×
     ((minutes ≡ []) ⊎ (minutes ≡ digits 2 m.minute) ⊎ (minutes ≡ digits 2 m.minute ++ digits 2 m.second)) ×
-    IsFraction fraction × IsZone m zone ×
+    IsFraction fraction × SaysAnyZone m zone ×
     (o ≡ digits 4 m.year ++ (digits 2 m.month ++ digits 2 m.day ++ digits 2 m.hour) ++ minutes ++ fraction ++ zone)
 
 -- every element within has a strict header, to a depth (10.1)

@@ -32,11 +32,11 @@ abbrev pub none_among : List TypeTag → List TypeTag → Bool
 none_among tags others = list_all (λ tag. not (is_among tag others)) tags
 
 -- no tag is of both
-abbrev pub are_apart : Tags → Tags → Bool
-are_apart (tags.Among xs) (tags.Among ys) = none_among xs.items ys.items
-are_apart (tags.Among xs) (tags.AllBut ys) = are_among xs.items ys.items
-are_apart (tags.AllBut xs) (tags.Among ys) = are_among ys.items xs.items
-are_apart (tags.AllBut xs) (tags.AllBut ys) = false
+abbrev pub tags_disjoint : Tags → Tags → Bool
+tags_disjoint (tags.Among xs) (tags.Among ys) = none_among xs.items ys.items
+tags_disjoint (tags.Among xs) (tags.AllBut ys) = are_among xs.items ys.items
+tags_disjoint (tags.AllBut xs) (tags.Among ys) = are_among ys.items xs.items
+tags_disjoint (tags.AllBut xs) (tags.AllBut ys) = false
 
 -- each tag of the one is of the other
 abbrev pub are_within : Tags → Tags → Bool
@@ -48,7 +48,7 @@ are_within (tags.AllBut xs) (tags.AllBut ys) = are_among ys.items xs.items
 -- the tags are apart from those of this type, if there is one
 abbrev pub apart_from : Tags → Option Node → Bool
 apart_from ts None = true
-apart_from ts (Some node) = are_apart ts node.tags
+apart_from ts (Some node) = tags_disjoint ts node.tags
 
 -- the tags hold those of this type, if there is one
 abbrev pub holds : Tags → Option Node → Bool
@@ -77,34 +77,34 @@ apart_from_next every table unknown ts (f ∷ fs) =
     (not (is_told every f.presence) || apart_from_next every table unknown ts fs)
 
 -- the field is told from what may follow, if its type is there
-abbrev pub field_told : Bool → List Node → Option ℕ → Option Node → List Field → Bool
-field_told every table unknown None fs = true
-field_told every table unknown (Some node) fs = apart_from_next every table unknown node.tags fs
+abbrev pub field_unambiguous : Bool → List Node → Option ℕ → Option Node → List Field → Bool
+field_unambiguous every table unknown None fs = true
+field_unambiguous every table unknown (Some node) fs = apart_from_next every table unknown node.tags fs
 
 -- each field that may be left out is told from what may follow it; or each field is told from all others
-abbrev pub fields_told : Bool → List Node → Option ℕ → List Field → Bool
-fields_told every table unknown [] = true
-fields_told every table unknown (f ∷ fs) =
-    (not (is_told every f.presence) || field_told every table unknown (node_at table f.of) fs) &&
-    fields_told every table unknown fs
+abbrev pub fields_unambiguous : Bool → List Node → Option ℕ → List Field → Bool
+fields_unambiguous every table unknown [] = true
+fields_unambiguous every table unknown (f ∷ fs) =
+    (not (is_told every f.presence) || field_unambiguous every table unknown (node_at table f.of) fs) &&
+    fields_unambiguous every table unknown fs
 
 -- none of the types has one of these tags
 abbrev pub apart_from_arms : List Node → Tags → List ℕ → Bool
 apart_from_arms table ts arms = list_all (λ a. apart_from ts (node_at table a)) arms
 
 -- the arm is told from the others, if its type is there
-abbrev pub arm_told : List Node → Option Node → List ℕ → Bool
-arm_told table None rest = true
-arm_told table (Some node) rest = apart_from_arms table node.tags rest
+abbrev pub arm_unambiguous : List Node → Option Node → List ℕ → Bool
+arm_unambiguous table None rest = true
+arm_unambiguous table (Some node) rest = apart_from_arms table node.tags rest
 
 -- each arm is told from the others
-abbrev pub arms_told : List Node → List ℕ → Bool
-arms_told table [] = true
-arms_told table (a ∷ rest) = arm_told table (node_at table a) rest && arms_told table rest
+abbrev pub arms_unambiguous : List Node → List ℕ → Bool
+arms_unambiguous table [] = true
+arms_unambiguous table (a ∷ rest) = arm_unambiguous table (node_at table a) rest && arms_unambiguous table rest
 
 -- the tags hold those of each arm
-abbrev pub arms_held : List Node → Tags → List ℕ → Bool
-arms_held table ts arms = list_all (λ a. holds ts (node_at table a)) arms
+abbrev pub arms_included : List Node → Tags → List ℕ → Bool
+arms_included table ts arms = list_all (λ a. holds ts (node_at table a)) arms
 
 abbrev pub is_one : List TypeTag → Bool
 is_one [] = false
@@ -125,20 +125,22 @@ are_classes (tags.Among ts) = are_listed_classes ts.items
 are_classes (tags.AllBut ts) = are_listed_classes ts.items
 
 -- the parts of a type are told apart; all but a choice, bounds and any element have one tag
-abbrev pub kind_told : List Node → Tags → Kind → Bool
-kind_told table ts (kinds.Sequence fields unknown) = is_single ts && fields_told false table unknown fields.items
-kind_told table ts (kinds.Set fields unknown) = is_single ts && fields_told true table unknown fields.items
-kind_told table ts (kinds.Choice arms) = arms_told table arms.items && arms_held table ts arms.items
-kind_told table ts (kinds.Within t lower upper) = holds ts (node_at table t)
-kind_told table ts kinds.Any = true
-kind_told table ts _ = is_single ts
+abbrev pub kind_unambiguous : List Node → Tags → Kind → Bool
+kind_unambiguous table ts (kinds.Sequence fields unknown) = is_single ts &&
+    fields_unambiguous false table unknown fields.items
+kind_unambiguous table ts (kinds.Set fields unknown) = is_single ts &&
+    fields_unambiguous true table unknown fields.items
+kind_unambiguous table ts (kinds.Choice arms) = arms_unambiguous table arms.items && arms_included table ts arms.items
+kind_unambiguous table ts (kinds.Within t lower upper) = holds ts (node_at table t)
+kind_unambiguous table ts kinds.Any = true
+kind_unambiguous table ts _ = is_single ts
 
-abbrev pub node_told : List Node → Node → Bool
-node_told table node = are_classes node.tags && kind_told table node.tags node.kind
+abbrev pub node_unambiguous : List Node → Node → Bool
+node_unambiguous table node = are_classes node.tags && kind_unambiguous table node.tags node.kind
 
 -- of each of these types
-abbrev pub all_told : List Node → List Node → Bool
-all_told table nodes = list_all (λ node. node_told table node) nodes
+abbrev pub all_unambiguous : List Node → List Node → Bool
+all_unambiguous table nodes = list_all (λ node. node_unambiguous table node) nodes
 
 -- each place is before this one
 abbrev pub all_before : ℕ → List ℕ → Bool
@@ -156,7 +158,7 @@ in_order t [] = true
 in_order t (node ∷ nodes) = leads_back t node.kind && in_order (suc t) nodes
 
 unfoldable pub is_sound : List Node → Bool
-is_sound table = all_told table table && in_order 0 table
+is_sound table = all_unambiguous table table && in_order 0 table
 
 -- Defaults are values of their types, in their strict encodings.
 

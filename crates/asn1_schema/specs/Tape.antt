@@ -3,7 +3,8 @@ use Rattle.std.specs.Prelude.{ℕ, suc, ◌*◌, ◌-◌, Bool, List, [], ◌∷
 use Rattle.x690.specs.Digits.{twos_complement_value}
 use Rattle.asn1_schema.specs.declared.tape.Item.{Item}
 use Rattle.asn1_schema.specs.declared.tape.Item.TheVariants as items
-use Rattle.asn1_schema.specs.Values.{Leaf, boolean, null, integer, enumerated, bits, octets, identifier, text, time, any}
+use Rattle.asn1_schema.specs.Values.{LeafValue, boolean, null, integer, enumerated, bits, octets, identifier, text}
+use Rattle.asn1_schema.specs.Values.{time, any}
 use Rattle.asn1_schema.specs.Values.{Value, Values, leaf, row, chosen, none, absent, more, joined}
 use Rattle.asn1_schema.specs.declared.schema.TextKind.{TextKind}
 use Rattle.asn1_schema.specs.declared.schema.TimeKind.{TimeKind}
@@ -15,7 +16,7 @@ pub data Sort : Type 0 where
   of_text : TextKind → Sort
   of_time : TimeKind → Sort
 
-abbrev pub string : Sort → List ℕ → Leaf
+abbrev pub string : Sort → List ℕ → LeafValue
 string of_octets o = octets o
 string (of_text kind) o = text kind o
 string (of_time kind) o = time kind o
@@ -23,7 +24,7 @@ string (of_time kind) o = time kind o
 -- A value with the pieces that its strings came in, a first one and others: a tape keeps these.
 mutual
   pub data Kept : Type 0 where
-    kept_leaf : Leaf → Kept
+    kept_leaf : LeafValue → Kept
     kept_string : Sort → List ℕ → List (List ℕ) → Kept
     kept_bits : List Bool → List (List Bool) → Kept
     kept_row : KeptRow → Kept
@@ -50,7 +51,7 @@ abbrev mutual
 
 -- what stands on a tape, without where it lies in memory
 pub data Mark : Type 0 where
-  leaf_mark : Leaf → Mark
+  leaf_mark : LeafValue → Mark
   begin_mark : ℕ → Mark
   end_mark : ℕ → Mark
   absent_mark : Mark
@@ -87,7 +88,7 @@ abbrev pub between : Mark → List Mark → Mark → List Mark
 between first inner last = first ∷ (inner ++ last ∷ [])
 
 -- pieces of a string
-abbrev pub pieces : {A : Type 0} → (A → Leaf) → A → List A → List Mark
+abbrev pub pieces : {A : Type 0} → (A → LeafValue) → A → List A → List Mark
 pieces make x xs =
     between (pieces_mark (suc (length xs))) (map (λ y. leaf_mark (make y)) (x ∷ xs)) (pieces_end_mark (suc (length xs)))
 

@@ -6,22 +6,22 @@ use Rattle.asn1_schema.specs.declared.schema.TextKind.TheVariants as texts
 use Rattle.asn1_schema.specs.declared.schema.TimeKind.{TimeKind}
 
 -- a value with no parts
-pub data Leaf : Type 0 where
-  boolean : Bool → Leaf
-  null : Leaf
-  integer : ℤ → Leaf
-  enumerated : ℤ → Leaf
-  bits : List Bool → Leaf
-  octets : List ℕ → Leaf
-  identifier : Bool → List ℕ → Leaf
-  text : TextKind → List ℕ → Leaf
-  time : TimeKind → List ℕ → Leaf
-  any : Identifier → List ℕ → Leaf
+pub data LeafValue : Type 0 where
+  boolean : Bool → LeafValue
+  null : LeafValue
+  integer : ℤ → LeafValue
+  enumerated : ℤ → LeafValue
+  bits : List Bool → LeafValue
+  octets : List ℕ → LeafValue
+  identifier : Bool → List ℕ → LeafValue
+  text : TextKind → List ℕ → LeafValue
+  time : TimeKind → List ℕ → LeafValue
+  any : Identifier → List ℕ → LeafValue
 
 -- a value of some type, and the values of fields or of a list
 mutual
   pub data Value : Type 0 where
-    leaf : Leaf → Value
+    leaf : LeafValue → Value
     row : Values → Value
     chosen : ℕ → Value → Value
 

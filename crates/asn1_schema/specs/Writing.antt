@@ -22,7 +22,8 @@ use Rattle.asn1_schema.specs.declared.tape.Item.{Item}
 use Rattle.asn1_schema.specs.declared.put_bits.Pending.{Pending}
 use Rattle.asn1_schema.specs.declared.endings.StringSort.{StringSort}
 use Rattle.asn1_schema.specs.declared.endings.StringSort.TheVariants as string_sorts
-use Rattle.asn1_schema.specs.Values.{Leaf, any, bits, joined, Value, Values, leaf, row, chosen, none, absent, more, measure}
+use Rattle.asn1_schema.specs.Values.{LeafValue, any, bits, joined, Value, Values, leaf, row, chosen, none, absent, more}
+use Rattle.asn1_schema.specs.Values.{measure}
 use Rattle.asn1_schema.specs.Grammar.{KindBody, Body, AreFields, Takes, AreSet, AreItems, AreEach, AnyOrder, Word, IsMeasured, has_tag, digits_2, bits_in, IsBitContent}
 use Rattle.asn1_schema.specs.Rules.{strict, IsStrictInside, TagsAscend}
 use Rattle.asn1_schema.specs.Tape.{Kept, KeptRow, kept_none, kept_absent, kept_more, Mark, leaf_mark, pieces_mark, absent_mark, begin_mark, arm_mark, marks, value_of, values_of, tape_of, tapes_of}
@@ -52,9 +53,9 @@ abbrev pub Grew : List ℕ → List ℕ → Type 0
 Grew old new = (front : List ℕ) × (new ≡ front ++ old)
 
 -- Where the tape is read to is told; or there was nothing to write, or no memory, and the old octets still stand behind.
-abbrev pub Answers : {T : Type 0} → (T → Type 0) → Type 0 → List ℕ → List ℕ → Result T Fault → Type 0
-Answers Done Nothing old new (Ok rest) = Done rest
-Answers Done Nothing old new (Err e) = ((e ≡ faults.Memory → ⊥) → Nothing) × Grew old new
+abbrev pub WritingAnswers : {T : Type 0} → (T → Type 0) → Type 0 → List ℕ → List ℕ → Result T Fault → Type 0
+WritingAnswers Done Nothing old new (Ok rest) = Done rest
+WritingAnswers Done Nothing old new (Err e) = ((e ≡ faults.Memory → ⊥) → Nothing) × Grew old new
 
 -- A value is taken off the end of a tape, and a word of it is put in front of the octets.
 pub record PutsWord (P : List ℕ → Value → Type 0) (tape rest : List Mark) (old new : List ℕ) : Type 0 where
@@ -73,7 +74,7 @@ NoneAtEnd P tape = (word : List ℕ) (kept : Kept) (rest : List Mark) → P word
 -- A value is written, and the place before it told; or the tape before the place ends with no value of the type.
 abbrev pub Writes : (List ℕ → Value → Type 0) → List Item → ℕ → List ℕ → List ℕ → Result ℕ Fault → Type 0
 Writes P tape at old new result =
-    Answers (λ rest. (rest ≤ at) × PutsWord P (before tape at) (before tape rest) old new)
+    WritingAnswers (λ rest. (rest ≤ at) × PutsWord P (before tape at) (before tape rest) old new)
     (NoneAtEnd P (before tape at)) old new result
 
 -- Values of fields are.
@@ -91,7 +92,7 @@ NoRowAtEnd P tape = (octets : List ℕ) (kept : KeptRow) (rest : List Mark) → 
 
 abbrev pub WritesRow : (List ℕ → Values → Type 0) → List Item → ℕ → List ℕ → List ℕ → Result ℕ Fault → Type 0
 WritesRow P tape at old new result =
-    Answers (λ rest. (rest ≤ at) × PutsFields P (before tape at) (before tape rest) old new)
+    WritingAnswers (λ rest. (rest ≤ at) × PutsFields P (before tape at) (before tape rest) old new)
     (NoRowAtEnd P (before tape at)) old new result
 
 -- an optional field is left out
@@ -118,7 +119,7 @@ pub record PutsDefault (P : List ℕ → Value → Type 0) (default : List ℕ) 
 
 abbrev pub WritesDefault : (List ℕ → Value → Type 0) → List ℕ → List Item → ℕ → List ℕ → List ℕ → Result ℕ Fault → Type 0
 WritesDefault P default tape at old new result =
-    Answers (λ rest. (rest ≤ at) × PutsDefault P default (before tape at) (before tape rest) old new)
+    WritingAnswers (λ rest. (rest ≤ at) × PutsDefault P default (before tape at) (before tape rest) old new)
     (NoneAtEnd P (before tape at)) old new result
 
 -- the tape ends with no value of a field, nor with its absence where it is optional
@@ -127,15 +128,15 @@ NoFieldAtEnd P presence tape = NoneAtEnd P tape ×
     (presence ≡ presences.Optional → (rest : List Mark) → tape ≡ rest ++ absent_mark ∷ [] → ⊥)
 
 -- a field is written, as its presence has it
-abbrev pub PutsField : (List ℕ → Value → Type 0) → Presence → List Mark → List Mark → List ℕ → List ℕ → Type 0
-PutsField P presences.Required tape rest old new = PutsWord P tape rest old new
-PutsField P presences.Optional tape rest old new =
+abbrev pub PutsByPresence : (List ℕ → Value → Type 0) → Presence → List Mark → List Mark → List ℕ → List ℕ → Type 0
+PutsByPresence P presences.Required tape rest old new = PutsWord P tape rest old new
+PutsByPresence P presences.Optional tape rest old new =
     PutsWord P tape rest old new ⊎ TakesAbsent presences.Optional tape rest old new
-PutsField P (presences.Default d) tape rest old new = PutsDefault P d.items tape rest old new
+PutsByPresence P (presences.Default d) tape rest old new = PutsDefault P d.items tape rest old new
 
 abbrev pub WritesField : (List ℕ → Value → Type 0) → Presence → List Item → ℕ → List ℕ → List ℕ → Result ℕ Fault → Type 0
 WritesField P presence tape at old new result =
-    Answers (λ rest. (rest ≤ at) × PutsField P presence (before tape at) (before tape rest) old new)
+    WritingAnswers (λ rest. (rest ≤ at) × PutsByPresence P presence (before tape at) (before tape rest) old new)
     (NoFieldAtEnd P presence (before tape at)) old new result
 
 -- the one tag, of a class that there is
@@ -173,8 +174,9 @@ abbrev pub Nowhere : ℕ → Parts → Value → Type 0
 Nowhere t p v = ⊥
 
 -- contents octets of a value of a kind
-abbrev pub IsContent : List Node → ℕ → Kind → List ℕ → Value → Type 0
-IsContent table depth kind content v = KindBody strict depth (Body strict table depth) Nowhere kind (plain kind content) v
+abbrev pub IsContentOfKind : List Node → ℕ → Kind → List ℕ → Value → Type 0
+IsContentOfKind table depth kind content v =
+    KindBody strict depth (Body strict table depth) Nowhere kind (plain kind content) v
 
 -- octets of a string, whatever is asked of them
 abbrev pub IsPlainString : Sort → List ℕ → Value → Type 0
@@ -191,19 +193,19 @@ IsFieldSet table depth unknown fields content v =
     (vs : Values) × (v ≡ row vs) × AreSet strict (Body strict table depth) unknown fields content vs
 
 -- how many fields, left out or there, or members
-abbrev pub members : Values → ℕ
-members none = 0
-members (absent vs) = suc (members vs)
-members (more v vs) = suc (members vs)
+abbrev pub member_count : Values → ℕ
+member_count none = 0
+member_count (absent vs) = suc (member_count vs)
+member_count (more v vs) = suc (member_count vs)
 
 -- fields, and so many unknown elements
 abbrev pub AreCounted : List Node → ℕ → Option ℕ → ℕ → List Field → List ℕ → Values → Type 0
 AreCounted table depth unknown count fields octets vs =
-    AreFields strict (Body strict table depth) unknown fields octets vs × (members vs ≡ length fields + count)
+    AreFields strict (Body strict table depth) unknown fields octets vs × (member_count vs ≡ length fields + count)
 
 abbrev pub AreCountedSet : List Node → ℕ → Option ℕ → ℕ → List Field → List ℕ → Values → Type 0
 AreCountedSet table depth unknown count fields octets vs =
-    AreSet strict (Body strict table depth) unknown fields octets vs × (members vs ≡ length fields + count)
+    AreSet strict (Body strict table depth) unknown fields octets vs × (member_count vs ≡ length fields + count)
 
 -- An element is put in its place among others that ascend by their tags; or it has none, as one has its tag.
 abbrev pub Settles : Parts → List Parts → List ℕ → List ℕ → Bool → Type 0
@@ -237,7 +239,7 @@ IsList table depth t ascending content v =
 
 abbrev pub AreCountedItems : List Node → ℕ → ℕ → Bool → ℕ → List ℕ → Values → Type 0
 AreCountedItems table depth t ascending count octets vs =
-    AreItems strict (Body strict table depth t) (order_of ascending) octets vs × (members vs ≡ count)
+    AreItems strict (Body strict table depth t) (order_of ascending) octets vs × (member_count vs ≡ count)
 
 -- the number of octets of the first word, where there is one
 abbrev pub FirstIs : List (List ℕ) → Option ℕ → Type 0
@@ -252,7 +254,7 @@ pub record ItemsSoFar (table : List Node) (depth t : ℕ) (ascending : Bool) (co
   pub are_octets : IsOctets (concat words)
   pub each : AreEach (Word strict table depth t) words (values_of kept)
   pub order : order_of ascending words
-  pub counted : members (values_of kept) + left ≡ count
+  pub counted : member_count (values_of kept) + left ≡ count
   pub first_is : FirstIs words first
   pub within : rest ≤ at
   pub taken : before tape at ≡ before tape rest ++ tapes_of kept
@@ -286,7 +288,8 @@ abbrev pub IsWithinBounds : List Node → ℕ → ℕ → Option ℤ → Option 
 IsWithinBounds table depth t lower upper word v = Word strict table depth t word v × IsMeasured lower upper (measure v)
 
 -- The pieces of a string that stand between two places, and what is put in front of what they join to.
-pub record TakesPieces {A : Type 0} (make : List A → Leaf) (tape : List Item) (start end : ℕ) (pieces : List (List A)) : Type 0 where
+pub record TakesPieces {A : Type 0} (make : List A → LeafValue) (tape : List Item) (start end : ℕ)
+    (pieces : List (List A)) : Type 0 where
   pub within : start ≤ end
   pub counted : length pieces ≡ end - start
   pub taken : before tape end ≡ before tape start ++ map (λ y. leaf_mark (make y)) pieces
@@ -299,7 +302,7 @@ pub record JoinsPieces (s : Sort) (tape : List Item) (start end : ℕ) (old new 
   pub put : new ≡ joined pieces ++ old
 
 -- no such pieces stand there
-abbrev pub NoPieces : {A : Type 0} → (List A → Leaf) → List Item → ℕ → ℕ → Type 0
+abbrev pub NoPieces : {A : Type 0} → (List A → LeafValue) → List Item → ℕ → ℕ → Type 0
 NoPieces {A} make tape start end = (pieces : List (List A)) →
     before tape end ≡ before tape start ++ map (λ y. leaf_mark (make y)) pieces → ⊥
 
@@ -347,7 +350,7 @@ pub record PushesBits (bs : List Bool) (first : Pending) (old new : List ℕ) (l
 
 -- So, or memory ran out.
 abbrev pub Pushes : List Bool → Pending → List ℕ → List ℕ → Result Pending Fault → Type 0
-Pushes bs first old new result = Answers (λ last. PushesBits bs first old new last) ⊥ old new result
+Pushes bs first old new result = WritingAnswers (λ last. PushesBits bs first old new last) ⊥ old new result
 
 -- contents octets of bits, whatever is asked of them
 abbrev pub IsPlainBits : List ℕ → Value → Type 0

@@ -6,7 +6,7 @@ ghost use Rattle.x690.specs.Joined.{AreConcatenatedWords};
 ghost use Rattle.asn1_schema.specs.declared.schema.Node.{Node};
 ghost use Rattle.asn1_schema.specs.declared.schema.Kind.TheVariants as kinds;
 ghost use Rattle.asn1_schema.specs.Rules.{IsStrictInside};
-ghost use Rattle.asn1_schema.specs.Reading.{parts_of, HoldsAt, Admits, IsOfKind, Judges};
+ghost use Rattle.asn1_schema.specs.Reading.{head_parts, HoldsAt, Admits, IsOfKind, Judges};
 
 use crate::coding::Coding;
 use crate::elements::{Head, der_element, is_at_end};
@@ -17,7 +17,7 @@ use crate::tape::Item;
 #[cycle(inside)]
 fn judge_inside(depth: usize, head: Head, content: &[u8]) -> Result<(), Fault>
     ensures judges { (d : ℕ) → HoldsAt depth result d →
-        Admits (IsStrictInside d (parts_of head content.now)) result }
+        Admits (IsStrictInside d (head_parts head content.now)) result }
     ensures no_memory { result ≢ Err faults.Memory }
 {
     if !head.constructed {
@@ -52,8 +52,8 @@ fn judge_elements(depth: usize, octets: &[u8]) -> Result<(), Fault>
 
 /// Whether each element within has a strict header, to this depth.
 pub(crate) fn is_strict_inside(depth: usize, head: Head, content: &[u8]) -> bool
-    ensures yes { IsTrue result → IsStrictInside depth (parts_of head content.now) }
-    ensures no { IsStrictInside depth (parts_of head content.now) → IsTrue result }
+    ensures yes { IsTrue result → IsStrictInside depth (head_parts head content.now) }
+    ensures no { IsStrictInside depth (head_parts head content.now) → IsTrue result }
 {
     match judge_inside(depth, head, content) {
         Ok(()) => true,
@@ -69,7 +69,7 @@ pub(crate) fn any_item<'a>(
     content: &'a [u8],
 ) -> Result<Item<'a>, Fault>
     ensures { (nodes : List Node) (of d : ℕ) → HoldsAt depth result d →
-        Judges (IsOfKind coding nodes d of kinds.Any (parts_of head content.now)) result }
+        Judges (IsOfKind coding nodes d of kinds.Any (head_parts head content.now)) result }
 {
     match coding {
         Coding::Der => match judge_inside(depth, head, content) {

@@ -3,14 +3,14 @@ ghost use Rattle.std.specs.Prelude.{IsTrue, slice_set, slice_get, List, [], ◌�
 ghost use Rattle.std.specs.Prelude.{◌<◌, ◌≤◌, ◌||◌, ◌&&◌, not, IfOk, IfErr, OnOk, OnErr, map, Some, None, true, false};
 ghost use Rattle.asn1_schema.specs.declared.schema.Kind.TheVariants as kinds;
 ghost use Rattle.asn1_schema.specs.declared.build.BuildError.TheVariants as errors;
-ghost use Rattle.asn1_schema.specs.Build.{IsOf, IsLike, IsRow, IsSetRow, IsListed, universal, text_number};
+ghost use Rattle.asn1_schema.specs.Build.{IsOf, IsLike, IsSequenceRow, IsSetRow, IsEnumerated, universal, text_number};
 ghost use Rattle.asn1_schema.specs.Build.{AreParts};
 ghost use Rattle.asn1_schema.specs.Grammar.{has_tag, is_tag_of};
-ghost use Rattle.asn1_schema.specs.Build.{IsPresence, IsAnyNode, IsBounded, IsChoiceOf, IsUnder, IsDefined};
-ghost use Rattle.asn1_schema.specs.Build.{Puts, PutsOpen, IsOpenChoice, Tells, AreTagsOf, has_tag_at};
+ghost use Rattle.asn1_schema.specs.Build.{IsPresence, IsAnyNode, IsBounded, IsChoiceOf, IsPutUnderTag, IsDefined};
+ghost use Rattle.asn1_schema.specs.Build.{Puts, PutsOpen, IsOpenChoice, Decides, AreTagsOf, has_tag_at};
 ghost use Rattle.asn1_schema.specs.Build.{last_places, may_be_omitted};
-ghost use Rattle.asn1_schema.specs.BuildNames.{ArePlaced, HasName, HasLabels, HasParts, HasArms, AreNamesAt};
-ghost use Rattle.asn1_schema.specs.BuildNames.{PutsNames, PutsOpenNames, AreUnder, AreDefined, IsNamed};
+ghost use Rattle.asn1_schema.specs.BuildNames.{ArePlaced, HasName, HasLabels, HasPartNames, HasArms, AreNamesAt};
+ghost use Rattle.asn1_schema.specs.BuildNames.{PutsNames, PutsOpenNames, AreUnder, AreDefined, HasNamesBeside};
 ghost use Rattle.asn1_schema.specs.declared.schema.TimeKind.TheVariants as times;
 
 use crate::copies::{bounded, copied_tags, retagged};
@@ -206,7 +206,7 @@ impl<'n> Schema<'n> {
             self.old.names.items ++ names.entry ∷ []) }
         ensures err { OnErr result (self.new.nodes.items ≡ self.old.nodes.items) }
         ensures names_err { OnErr result (self.new.names.items ≡ self.old.names.items) }
-        ensures named { IsNamed self.old → IsNamed self.new }
+        ensures named { HasNamesBeside self.old → HasNamesBeside self.new }
     {
         let place = self.nodes.len();
         self.names.push(names)?;
@@ -229,7 +229,7 @@ impl<'n> Schema<'n> {
     ) -> Result<usize, BuildError>
         ensures puts { Puts self.old.nodes.items self.new.nodes.items (IsOf tag kind) result }
         ensures names { PutsNames self.old self.new (HasLabels name.now labels.entry.items) result }
-        ensures named { IsNamed self.old → IsNamed self.new }
+        ensures named { HasNamesBeside self.old → HasNamesBeside self.new }
     {
         let tags = one_tag(self.alloc, tag)?;
         self.put(Node { tags, kind }, TypeNames { name, labels })
@@ -240,7 +240,7 @@ impl<'n> Schema<'n> {
         ensures puts { Puts self.old.nodes.items self.new.nodes.items
             (IsOf (universal number) kind) result }
         ensures names { PutsNames self.old self.new (HasName name.now) result }
-        ensures named { IsNamed self.old → IsNamed self.new }
+        ensures named { HasNamesBeside self.old → HasNamesBeside self.new }
     {
         let labels = Vec::new(self.alloc);
         self.tagged(name, universal(number), kind, labels)
@@ -251,7 +251,7 @@ impl<'n> Schema<'n> {
         ensures puts { Puts self.old.nodes.items self.new.nodes.items
             (IsOf (universal 1) kinds.Boolean) result }
         ensures names { PutsNames self.old self.new (HasName name.now) result }
-        ensures named { IsNamed self.old → IsNamed self.new }
+        ensures named { HasNamesBeside self.old → HasNamesBeside self.new }
     {
         self.plain(name, 1, Kind::Boolean)
     }
@@ -261,7 +261,7 @@ impl<'n> Schema<'n> {
         ensures puts { Puts self.old.nodes.items self.new.nodes.items
             (IsOf (universal 5) kinds.Null) result }
         ensures names { PutsNames self.old self.new (HasName name.now) result }
-        ensures named { IsNamed self.old → IsNamed self.new }
+        ensures named { HasNamesBeside self.old → HasNamesBeside self.new }
     {
         self.plain(name, 5, Kind::Null)
     }
@@ -271,7 +271,7 @@ impl<'n> Schema<'n> {
         ensures puts { Puts self.old.nodes.items self.new.nodes.items
             (IsOf (universal 2) kinds.Integer) result }
         ensures names { PutsNames self.old self.new (HasLabels name.now numbers.now) result }
-        ensures named { IsNamed self.old → IsNamed self.new }
+        ensures named { HasNamesBeside self.old → HasNamesBeside self.new }
     {
         let labels = Vec::from_slice(self.alloc, numbers)?;
         self.tagged(name, universal(2), Kind::Integer, labels)
@@ -285,9 +285,9 @@ impl<'n> Schema<'n> {
         extensible: bool,
     ) -> Result<usize, BuildError>
         ensures puts { Puts self.old.nodes.items self.new.nodes.items
-            (IsLike (universal 10) (IsListed numbers.now extensible)) result }
+            (IsLike (universal 10) (IsEnumerated numbers.now extensible)) result }
         ensures names { PutsNames self.old self.new (HasLabels name.now numbers.now) result }
-        ensures named { IsNamed self.old → IsNamed self.new }
+        ensures named { HasNamesBeside self.old → HasNamesBeside self.new }
     {
         let labels = Vec::from_slice(self.alloc, numbers)?;
         let listed = listed_numbers(self.alloc, numbers)?;
@@ -304,7 +304,7 @@ impl<'n> Schema<'n> {
         ensures puts { Puts self.old.nodes.items self.new.nodes.items
             (IsOf (universal 3) (kinds.Bits false)) result }
         ensures names { PutsNames self.old self.new (HasName name.now) result }
-        ensures named { IsNamed self.old → IsNamed self.new }
+        ensures named { HasNamesBeside self.old → HasNamesBeside self.new }
     {
         self.plain(name, 3, Kind::Bits(false))
     }
@@ -314,7 +314,7 @@ impl<'n> Schema<'n> {
         ensures puts { Puts self.old.nodes.items self.new.nodes.items
             (IsOf (universal 3) (kinds.Bits true)) result }
         ensures names { PutsNames self.old self.new (HasLabels name.now bits.now) result }
-        ensures named { IsNamed self.old → IsNamed self.new }
+        ensures named { HasNamesBeside self.old → HasNamesBeside self.new }
     {
         let labels = Vec::from_slice(self.alloc, bits)?;
         self.tagged(name, universal(3), Kind::Bits(true), labels)
@@ -325,7 +325,7 @@ impl<'n> Schema<'n> {
         ensures puts { Puts self.old.nodes.items self.new.nodes.items
             (IsOf (universal 4) kinds.Octets) result }
         ensures names { PutsNames self.old self.new (HasName name.now) result }
-        ensures named { IsNamed self.old → IsNamed self.new }
+        ensures named { HasNamesBeside self.old → HasNamesBeside self.new }
     {
         self.plain(name, 4, Kind::Octets)
     }
@@ -335,7 +335,7 @@ impl<'n> Schema<'n> {
         ensures puts { Puts self.old.nodes.items self.new.nodes.items
             (IsOf (universal 6) (kinds.Identifier false)) result }
         ensures names { PutsNames self.old self.new (HasName name.now) result }
-        ensures named { IsNamed self.old → IsNamed self.new }
+        ensures named { HasNamesBeside self.old → HasNamesBeside self.new }
     {
         self.plain(name, 6, Kind::Identifier(false))
     }
@@ -345,7 +345,7 @@ impl<'n> Schema<'n> {
         ensures puts { Puts self.old.nodes.items self.new.nodes.items
             (IsOf (universal 13) (kinds.Identifier true)) result }
         ensures names { PutsNames self.old self.new (HasName name.now) result }
-        ensures named { IsNamed self.old → IsNamed self.new }
+        ensures named { HasNamesBeside self.old → HasNamesBeside self.new }
     {
         self.plain(name, 13, Kind::Identifier(true))
     }
@@ -355,7 +355,7 @@ impl<'n> Schema<'n> {
         ensures puts { Puts self.old.nodes.items self.new.nodes.items
             (IsOf (universal (text_number kind)) (kinds.Text kind)) result }
         ensures names { PutsNames self.old self.new (HasName name.now) result }
-        ensures named { IsNamed self.old → IsNamed self.new }
+        ensures named { HasNamesBeside self.old → HasNamesBeside self.new }
     {
         self.plain(name, text_number(kind), Kind::Text(kind))
     }
@@ -365,7 +365,7 @@ impl<'n> Schema<'n> {
         ensures puts { Puts self.old.nodes.items self.new.nodes.items
             (IsOf (universal 23) (kinds.Time times.Utc)) result }
         ensures names { PutsNames self.old self.new (HasName name.now) result }
-        ensures named { IsNamed self.old → IsNamed self.new }
+        ensures named { HasNamesBeside self.old → HasNamesBeside self.new }
     {
         self.plain(name, 23, Kind::Time(TimeKind::Utc))
     }
@@ -375,7 +375,7 @@ impl<'n> Schema<'n> {
         ensures puts { Puts self.old.nodes.items self.new.nodes.items
             (IsOf (universal 24) (kinds.Time times.Generalized)) result }
         ensures names { PutsNames self.old self.new (HasName name.now) result }
-        ensures named { IsNamed self.old → IsNamed self.new }
+        ensures named { HasNamesBeside self.old → HasNamesBeside self.new }
     {
         self.plain(name, 24, Kind::Time(TimeKind::Generalized))
     }
@@ -399,7 +399,7 @@ impl<'n> Schema<'n> {
         ensures puts { Puts self.old.nodes.items self.new.nodes.items
             (IsOf (universal 16) (kinds.SequenceOf of)) result }
         ensures names { PutsNames self.old self.new (HasName name.now) result }
-        ensures named { IsNamed self.old → IsNamed self.new }
+        ensures named { HasNamesBeside self.old → HasNamesBeside self.new }
     {
         self.check_place(of)?;
         self.plain(name, 16, Kind::SequenceOf(of))
@@ -411,7 +411,7 @@ impl<'n> Schema<'n> {
         ensures puts { Puts self.old.nodes.items self.new.nodes.items
             (IsOf (universal 17) (kinds.SetOf of)) result }
         ensures names { PutsNames self.old self.new (HasName name.now) result }
-        ensures named { IsNamed self.old → IsNamed self.new }
+        ensures named { HasNamesBeside self.old → HasNamesBeside self.new }
     {
         self.check_place(of)?;
         self.plain(name, 17, Kind::SetOf(of))
@@ -423,7 +423,7 @@ impl<'n> Schema<'n> {
         ensures puts { Puts self.old.nodes.items self.new.nodes.items
             (IsOf tag (kinds.Explicit of)) result }
         ensures names { PutsNames self.old self.new (HasName []) result }
-        ensures named { IsNamed self.old → IsNamed self.new }
+        ensures named { HasNamesBeside self.old → HasNamesBeside self.new }
     {
         self.check_place(of)?;
         let labels = Vec::new(self.alloc);
@@ -447,9 +447,9 @@ impl<'n> Schema<'n> {
         unknown: Option<usize>,
     ) -> Result<usize, BuildError>
         ensures puts { Puts self.old.nodes.items self.new.nodes.items
-            (IsLike (universal 16) (IsRow parts.now unknown)) result }
-        ensures names { PutsNames self.old self.new (HasParts name.now parts.now) result }
-        ensures named { IsNamed self.old → IsNamed self.new }
+            (IsLike (universal 16) (IsSequenceRow parts.now unknown)) result }
+        ensures names { PutsNames self.old self.new (HasPartNames name.now parts.now) result }
+        ensures named { HasNamesBeside self.old → HasNamesBeside self.new }
     {
         self.check_parts(parts)?;
         let labels = part_names(self.alloc, parts)?;
@@ -460,16 +460,16 @@ impl<'n> Schema<'n> {
     /// SEQUENCE of these fields.
     pub fn sequence(&mut self, name: &'n str, parts: &[Part<'n>]) -> Result<usize, BuildError>
         ensures puts { Puts self.old.nodes.items self.new.nodes.items
-            (IsLike (universal 16) (IsRow parts.now None)) result }
-        ensures names { PutsNames self.old self.new (HasParts name.now parts.now) result }
-        ensures named { IsNamed self.old → IsNamed self.new }
+            (IsLike (universal 16) (IsSequenceRow parts.now None)) result }
+        ensures names { PutsNames self.old self.new (HasPartNames name.now parts.now) result }
+        ensures named { HasNamesBeside self.old → HasNamesBeside self.new }
     {
         self.row(name, parts, None)
     }
 
     /// The tags with those of the type at a place, if there is one.
     fn with_type(&self, tags: Tags, of: usize) -> Result<Tags, BuildError>
-        ensures { IfOk result (Tells (λ id. has_tag tags id ||
+        ensures { IfOk result (Decides (λ id. has_tag tags id ||
             has_tag_at self.now.nodes.items id of)) }
     {
         match node_at(&self.nodes, of) {
@@ -480,7 +480,7 @@ impl<'n> Schema<'n> {
 
     /// The tags with those of a field that may be left out; and none behind a field that may not.
     fn with_part(&self, tags: Tags, part: &Part<'_>) -> Result<Tags, BuildError>
-        ensures { IfOk result (Tells (λ id. may_be_omitted part.now &&
+        ensures { IfOk result (Decides (λ id. may_be_omitted part.now &&
             (has_tag tags id || has_tag_at self.now.nodes.items id part.now.of))) }
     {
         match part.omission {
@@ -505,10 +505,10 @@ impl<'n> Schema<'n> {
     fn unknown(&mut self, tags: Tags) -> Result<usize, BuildError>
         ensures puts { Puts self.old.nodes.items self.new.nodes.items
             (λ node. (node.kind ≡ kinds.Any) ×
-            Tells (λ id. not (has_tag tags id || is_tag_of id (universal 0))) node.tags)
+            Decides (λ id. not (has_tag tags id || is_tag_of id (universal 0))) node.tags)
             result }
         ensures names { PutsNames self.old self.new (HasName []) result }
-        ensures named { IsNamed self.old → IsNamed self.new }
+        ensures named { HasNamesBeside self.old → HasNamesBeside self.new }
     {
         let end = one_tag(self.alloc, universal(0))?;
         let node = Node {
@@ -523,9 +523,9 @@ impl<'n> Schema<'n> {
     /// the end that may be left out.
     pub fn open_sequence(&mut self, name: &'n str, parts: &[Part<'n>]) -> Result<usize, BuildError>
         ensures puts { PutsOpen self.old.nodes.items self.new.nodes.items (last_places parts.now)
-            (λ unknown. IsLike (universal 16) (IsRow parts.now (Some unknown))) result }
-        ensures names { PutsOpenNames self.old self.new (HasParts name.now parts.now) result }
-        ensures named { IsNamed self.old → IsNamed self.new }
+            (λ unknown. IsLike (universal 16) (IsSequenceRow parts.now (Some unknown))) result }
+        ensures names { PutsOpenNames self.old self.new (HasPartNames name.now parts.now) result }
+        ensures named { HasNamesBeside self.old → HasNamesBeside self.new }
     {
         let tags = self.last_tags(parts)?;
         let unknown = self.unknown(tags)?;
@@ -541,8 +541,8 @@ impl<'n> Schema<'n> {
     ) -> Result<usize, BuildError>
         ensures puts { Puts self.old.nodes.items self.new.nodes.items
             (IsLike (universal 17) (IsSetRow parts.now unknown)) result }
-        ensures names { PutsNames self.old self.new (HasParts name.now parts.now) result }
-        ensures named { IsNamed self.old → IsNamed self.new }
+        ensures names { PutsNames self.old self.new (HasPartNames name.now parts.now) result }
+        ensures named { HasNamesBeside self.old → HasNamesBeside self.new }
     {
         self.check_parts(parts)?;
         let labels = part_names(self.alloc, parts)?;
@@ -554,8 +554,8 @@ impl<'n> Schema<'n> {
     pub fn set(&mut self, name: &'n str, parts: &[Part<'n>]) -> Result<usize, BuildError>
         ensures puts { Puts self.old.nodes.items self.new.nodes.items
             (IsLike (universal 17) (IsSetRow parts.now None)) result }
-        ensures names { PutsNames self.old self.new (HasParts name.now parts.now) result }
-        ensures named { IsNamed self.old → IsNamed self.new }
+        ensures names { PutsNames self.old self.new (HasPartNames name.now parts.now) result }
+        ensures named { HasNamesBeside self.old → HasNamesBeside self.new }
     {
         self.set_row(name, parts, None)
     }
@@ -576,8 +576,8 @@ impl<'n> Schema<'n> {
     pub fn open_set(&mut self, name: &'n str, parts: &[Part<'n>]) -> Result<usize, BuildError>
         ensures puts { PutsOpen self.old.nodes.items self.new.nodes.items (map (λ p. p.of) parts.now)
             (λ unknown. IsLike (universal 17) (IsSetRow parts.now (Some unknown))) result }
-        ensures names { PutsOpenNames self.old self.new (HasParts name.now parts.now) result }
-        ensures named { IsNamed self.old → IsNamed self.new }
+        ensures names { PutsOpenNames self.old self.new (HasPartNames name.now parts.now) result }
+        ensures named { HasNamesBeside self.old → HasNamesBeside self.new }
     {
         let tags = self.all_tags(parts)?;
         let unknown = self.unknown(tags)?;
@@ -588,7 +588,7 @@ impl<'n> Schema<'n> {
     pub fn any(&mut self, name: &'n str) -> Result<usize, BuildError>
         ensures puts { Puts self.old.nodes.items self.new.nodes.items IsAnyNode result }
         ensures names { PutsNames self.old self.new (HasName name.now) result }
-        ensures named { IsNamed self.old → IsNamed self.new }
+        ensures named { HasNamesBeside self.old → HasNamesBeside self.new }
     {
         let ends = Vec::from_array(self.alloc, [universal(0)])?;
         let node = Node {
@@ -610,7 +610,7 @@ impl<'n> Schema<'n> {
         ensures puts { Puts self.old.nodes.items self.new.nodes.items
             (IsBounded self.old.nodes.items of lower upper) result }
         ensures names { PutsNames self.old self.new (HasName name.now) result }
-        ensures named { IsNamed self.old → IsNamed self.new }
+        ensures named { HasNamesBeside self.old → HasNamesBeside self.new }
     {
         let Some(node) = node_at(&self.nodes, of) else {
             return Err(BuildError::MissingType);
@@ -639,7 +639,7 @@ impl<'n> Schema<'n> {
             (λ node. IsChoiceOf (map (λ a. a.of) arms.now) node.kind ×
             AreTagsOf self.old.nodes.items (map (λ a. a.of) arms.now) node.tags) result }
         ensures names { PutsNames self.old self.new (HasArms name.now arms.now) result }
-        ensures named { IsNamed self.old → IsNamed self.new }
+        ensures named { HasNamesBeside self.old → HasNamesBeside self.new }
     {
         let tags = self.arm_tags(arms)?;
         let labels = arm_names(self.alloc, arms)?;
@@ -656,7 +656,7 @@ impl<'n> Schema<'n> {
         ensures puts { PutsOpen self.old.nodes.items self.new.nodes.items
             (map (λ a. a.of) arms.now) (IsOpenChoice (map (λ a. a.of) arms.now)) result }
         ensures names { PutsOpenNames self.old self.new (HasArms name.now arms.now) result }
-        ensures named { IsNamed self.old → IsNamed self.new }
+        ensures named { HasNamesBeside self.old → HasNamesBeside self.new }
     {
         let tags = self.arm_tags(arms)?;
         if matches!(&tags, Tags::AllBut(_)) {
@@ -679,7 +679,7 @@ impl<'n> Schema<'n> {
         ensures puts { Puts self.old.nodes.items self.new.nodes.items
             (IsOf tag (kinds.Within (length self.old.nodes.items) None None)) result }
         ensures names { PutsNames self.old self.new (HasName name.now) result }
-        ensures named { IsNamed self.old → IsNamed self.new }
+        ensures named { HasNamesBeside self.old → HasNamesBeside self.new }
     {
         let own = self.nodes.len();
         let labels = Vec::new(self.alloc);
@@ -705,11 +705,11 @@ impl<'n> Schema<'n> {
     pub fn implicit(&mut self, tag: TypeTag, of: usize) -> Result<usize, BuildError>
         ensures grows { (more : List Node) × (self.new.nodes.items ≡ self.old.nodes.items ++ more) }
         ensures ok { IfOk result (λ place.
-            IsUnder self.old.nodes.items self.new.nodes.items place tag of) }
+            IsPutUnderTag self.old.nodes.items self.new.nodes.items place tag of) }
         ensures names_grow { (more : List TypeNames) ×
             (self.new.names.items ≡ self.old.names.items ++ more) }
         ensures names { OnOk result (AreUnder self.old.names.items self.new.names.items of) }
-        ensures named { IsNamed self.old → IsNamed self.new }
+        ensures named { HasNamesBeside self.old → HasNamesBeside self.new }
     {
         let Some(node) = node_at(&self.nodes, of) else {
             return Err(BuildError::MissingType);
@@ -752,7 +752,7 @@ impl<'n> Schema<'n> {
             self.new.nodes.items ≡
             slice_set self.old.nodes.items place (record declared { kind = kind }) }
         ensures names { self.new.names.items ≡ self.old.names.items }
-        ensures named { IsNamed self.old → IsNamed self.new }
+        ensures named { HasNamesBeside self.old → HasNamesBeside self.new }
     {
         self.nodes[place].kind = kind;
     }
@@ -764,7 +764,7 @@ impl<'n> Schema<'n> {
         ensures names { (own : TypeNames) → slice_get self.old.names.items place ≡ Some own →
             self.new.names.items ≡
             slice_set self.old.names.items place (record own { labels = labels.entry }) }
-        ensures named { IsNamed self.old → IsNamed self.new }
+        ensures named { HasNamesBeside self.old → HasNamesBeside self.new }
     {
         self.names[place].labels = labels;
     }
@@ -778,7 +778,7 @@ impl<'n> Schema<'n> {
         ensures names { OnOk result
             (AreDefined self.old.names.items self.new.names.items place of) }
         ensures names_err { OnErr result (self.new.names.items ≡ self.old.names.items) }
-        ensures named { IsNamed self.old → IsNamed self.new }
+        ensures named { HasNamesBeside self.old → HasNamesBeside self.new }
     {
         if !self.is_declared(place) {
             return Err(BuildError::NotDeclared);

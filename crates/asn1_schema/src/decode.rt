@@ -6,7 +6,7 @@ ghost use Rattle.asn1_schema.specs.Rules.{der, ber};
 ghost use Rattle.asn1_schema.specs.Sound.{is_sound};
 ghost use Rattle.asn1_schema.specs.Reading.{rules_of, IsWordOf};
 ghost use Rattle.asn1_schema.specs.Decoding.{Decodes, DecodesWhole, Fails, IsFollowed};
-ghost use Rattle.asn1_schema.specs.Decoding.{EndsWithin, TellsMissing};
+ghost use Rattle.asn1_schema.specs.Decoding.{IsTruncatedByCoding, TellsMissing};
 ghost use Rattle.asn1_schema.specs.declared.fault.Fault.TheVariants as faults;
 ghost use Rattle.x690.specs.Identifiers.{IsTruncatedIdentifier};
 ghost use Rattle.x690.specs.Nested.{EndsInIdentifier};
@@ -43,11 +43,14 @@ pub enum DecodeError {
 /// The answer where reading stopped: a refusal is final, or the element at the front is cut.
 fn error_of(coding: Coding, octets: &[u8], fault: Fault) -> DecodeError
     ensures refused { result ≡ errors.Refused → (fault ≡ faults.Refused)
-        × TellsMissing (rules_of coding).ElementOf (EndsWithin coding octets.now) octets.now None }
+        × TellsMissing (rules_of coding).ElementOf (IsTruncatedByCoding coding octets.now)
+        octets.now None }
     ensures too_deep { result ≡ errors.TooDeep → (fault ≡ faults.TooDeep)
-        × TellsMissing (rules_of coding).ElementOf (EndsWithin coding octets.now) octets.now None }
+        × TellsMissing (rules_of coding).ElementOf (IsTruncatedByCoding coding octets.now)
+        octets.now None }
     ensures truncated { (n : ℕ) → result ≡ errors.Incomplete n → (fault ≢ faults.Memory)
-        × TellsMissing (rules_of coding).ElementOf (EndsWithin coding octets.now) octets.now (Some n) }
+        × TellsMissing (rules_of coding).ElementOf (IsTruncatedByCoding coding octets.now)
+        octets.now (Some n) }
     ensures no_other { result ≡ errors.TrailingOctets → ⊥ }
 {
     match fault {
@@ -76,7 +79,8 @@ pub fn decode<'a>(
     requires { is_sound table.now ≡ true }
     ensures ok { IfOk result (λ rest.
         Decodes (IsWordOf coding table.now depth of) octets.now rest.now tape.new.items) }
-    ensures fails { Fails table.now (λ d. IsWordOf coding table.now d of) depth (EndsWithin coding octets.now)
+    ensures fails { Fails table.now (λ d. IsWordOf coding table.now d of) depth
+        (IsTruncatedByCoding coding octets.now)
         octets.now tape.new.items refusal.new result }
     ensures never_trailing { IsErrOf result errors.TrailingOctets → ⊥ }
 {
@@ -107,7 +111,8 @@ pub fn decode_whole<'a>(
     requires { is_sound table.now ≡ true }
     ensures ok { OnOk result (DecodesWhole (IsWordOf coding table.now depth of) octets.now
         tape.new.items) }
-    ensures fails { Fails table.now (λ d. IsWordOf coding table.now d of) depth (EndsWithin coding octets.now)
+    ensures fails { Fails table.now (λ d. IsWordOf coding table.now d of) depth
+        (IsTruncatedByCoding coding octets.now)
         octets.now tape.new.items refusal.new result }
     ensures trailing { IsErrOf result errors.TrailingOctets →
         IsFollowed (IsWordOf coding table.now depth of) octets.now }

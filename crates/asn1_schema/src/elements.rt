@@ -4,8 +4,8 @@ ghost use Rattle.std.specs.Prelude.{[], ℕ, ◌≡◌, ◌+◌, ◌<◌, ◌^�
 ghost use Rattle.x690.specs.Elements.{IsDerElement};
 ghost use Rattle.x690.specs.Nested.{IsElement};
 ghost use Rattle.x690.specs.Joined.{NoPrefix};
-ghost use Rattle.asn1_headers.specs.Answers.{Front};
-ghost use Rattle.asn1_schema.specs.Reading.{rules_of, parts_of};
+ghost use Rattle.asn1_headers.specs.Answers.{HasPrefix};
+ghost use Rattle.asn1_schema.specs.Reading.{rules_of, head_parts};
 ghost use Rattle.asn1_schema.specs.Refusals.{ending_of};
 
 use crate::coding::Coding;
@@ -44,7 +44,7 @@ fn contents_at(at: usize, all: usize, content: usize, rest: usize, indefinite: b
 
 /// The rest, what the header says, and the contents octets of the element at the front, by DER.
 pub(crate) fn der_element(octets: &[u8], at: usize) -> Option<(&[u8], Head, &[u8])>
-    ensures some { IfSome result (λ x. Front IsDerElement octets.now (parts_of x.1 x.2.now)
+    ensures some { IfSome result (λ x. HasPrefix IsDerElement octets.now (head_parts x.1 x.2.now)
         x.0.now) }
     ensures none { IfNone result (NoPrefix IsDerElement octets.now) }
 {
@@ -80,7 +80,7 @@ fn is_indefinite(form: Length) -> bool
 
 /// The same by BER, nested to a depth.
 fn ber_element(octets: &[u8], max: usize, at: usize) -> Option<(&[u8], Head, &[u8])>
-    ensures some { IfSome result (λ x. Front (IsElement max) octets.now (parts_of x.1 x.2.now)
+    ensures some { IfSome result (λ x. HasPrefix (IsElement max) octets.now (head_parts x.1 x.2.now)
         x.0.now) }
     ensures none { IfNone result (NoPrefix (IsElement max) octets.now) }
 {
@@ -109,7 +109,8 @@ fn ber_element(octets: &[u8], max: usize, at: usize) -> Option<(&[u8], Head, &[u
 
 /// The same by these rules.
 pub(crate) fn element(coding: Coding, octets: &[u8], at: usize) -> Option<(&[u8], Head, &[u8])>
-    ensures some { IfSome result (λ x. Front (rules_of coding).ElementOf octets.now (parts_of x.1
+    ensures some { IfSome result (λ x. HasPrefix (rules_of coding).ElementOf octets.now
+        (head_parts x.1
         x.2.now) x.0.now) }
     ensures none { IfNone result (NoPrefix (rules_of coding).ElementOf octets.now) }
 {

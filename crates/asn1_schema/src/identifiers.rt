@@ -2,7 +2,7 @@
 ghost use Rattle.asn1_schema.specs.declared.schema.Kind.TheVariants as kinds;
 ghost use Rattle.std.specs.Prelude.{ℕ, List};
 ghost use Rattle.asn1_schema.specs.declared.schema.Node.{Node};
-ghost use Rattle.asn1_schema.specs.Reading.{parts_of, IsOfKind, Judges};
+ghost use Rattle.asn1_schema.specs.Reading.{head_parts, IsOfKind, Judges};
 
 use crate::coding::Coding;
 use crate::elements::Head;
@@ -18,7 +18,7 @@ pub(crate) fn identifier_item<'a>(
     content: &'a [u8],
 ) -> Result<Item<'a>, Fault>
     ensures { (nodes : List Node) (depth of : ℕ) →
-        Judges (IsOfKind coding nodes depth of (kinds.Identifier relative) (parts_of head
+        Judges (IsOfKind coding nodes depth of (kinds.Identifier relative) (head_parts head
         content.now)) result }
 {
     if head.constructed {

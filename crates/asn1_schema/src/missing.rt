@@ -6,7 +6,7 @@ ghost use Rattle.x690.specs.Identifiers.{IsTruncatedIdentifier};
 ghost use Rattle.asn1_headers.specs.declared.error.Err.TheVariants.{Incomplete as truncated};
 ghost use Rattle.asn1_headers.specs.declared.error.Needed.TheVariants.{Size};
 ghost use Rattle.asn1_schema.specs.Reading.{rules_of};
-ghost use Rattle.asn1_schema.specs.Decoding.{TellsMissing, EndsWithin};
+ghost use Rattle.asn1_schema.specs.Decoding.{TellsMissing, IsTruncatedByCoding};
 
 use crate::coding::Coding;
 use asn1_headers::ber::{Steps, element_to_depth};
@@ -49,7 +49,8 @@ fn ber_missing(octets: &[u8], max: usize) -> Option<usize>
 
 /// How many octets are missing at least of the element at the front, by these rules.
 pub(crate) fn missing_octets(coding: Coding, octets: &[u8]) -> Option<usize>
-    ensures { TellsMissing (rules_of coding).ElementOf (EndsWithin coding octets.now) octets.now
+    ensures { TellsMissing (rules_of coding).ElementOf (IsTruncatedByCoding coding octets.now)
+        octets.now
         result }
 {
     match coding {

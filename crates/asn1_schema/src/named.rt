@@ -7,7 +7,7 @@ ghost use Rattle.asn1_schema.specs.declared.pieces.Sort.TheVariants as sorts;
 ghost use Rattle.asn1_schema.specs.Grammar.{trimmed};
 ghost use Rattle.asn1_schema.specs.Values.{joined};
 ghost use Rattle.asn1_schema.specs.Tape.{Mark, marks};
-ghost use Rattle.asn1_schema.specs.Reading.{parts_of, HoldsAt, IsOfKind, Judges, ReadsValue};
+ghost use Rattle.asn1_schema.specs.Reading.{head_parts, HoldsAt, IsOfKind, Judges, ReadsValue};
 ghost use Rattle.asn1_schema.specs.Pieces.{piece_mark};
 ghost use Rattle.asn1_schema.specs.Bits.{IsNamedPrimitive, IsNamedConstructed, TrimsPieces};
 
@@ -95,7 +95,7 @@ pub(crate) fn read_bits<'a>(
     tape: &mut Vec<Item<'a>>,
 ) -> Result<(), Fault>
     ensures { (nodes : List Node) (of d : ℕ) → HoldsAt depth result d →
-        ReadsValue (IsOfKind coding nodes d of (kinds.Bits named) (parts_of head content.now))
+        ReadsValue (IsOfKind coding nodes d of (kinds.Bits named) (head_parts head content.now))
         tape.old.items tape.new.items result }
 {
     if !named {

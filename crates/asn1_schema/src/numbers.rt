@@ -6,7 +6,7 @@ ghost use Rattle.x690.specs.Digits.{twos_complement_value};
 ghost use Rattle.x690.specs.Signed.{IsSigned};
 ghost use Rattle.asn1_schema.specs.declared.schema.Node.{Node};
 ghost use Rattle.asn1_schema.specs.Rules.{IsStrictTruth, IsTruth};
-ghost use Rattle.asn1_schema.specs.Reading.{rules_of, parts_of, IsOfKind, Judges, IsListed};
+ghost use Rattle.asn1_schema.specs.Reading.{rules_of, head_parts, IsOfKind, Judges, IsListed};
 
 use crate::bounds::is_held;
 use crate::coding::Coding;
@@ -58,7 +58,7 @@ pub(crate) fn boolean_item<'a>(
     content: &'a [u8],
 ) -> Result<Item<'a>, Fault>
     ensures { (nodes : List Node) (depth of : ℕ) →
-        Judges (IsOfKind coding nodes depth of kinds.Boolean (parts_of head content.now)) result }
+        Judges (IsOfKind coding nodes depth of kinds.Boolean (head_parts head content.now)) result }
 {
     if head.constructed {
         return Err(Fault::Refused);
@@ -76,7 +76,7 @@ pub(crate) fn null_item<'a>(
     content: &'a [u8],
 ) -> Result<Item<'a>, Fault>
     ensures { (nodes : List Node) (depth of : ℕ) →
-        Judges (IsOfKind coding nodes depth of kinds.Null (parts_of head content.now)) result }
+        Judges (IsOfKind coding nodes depth of kinds.Null (head_parts head content.now)) result }
 {
     if head.constructed {
         return Err(Fault::Refused);
@@ -102,7 +102,7 @@ pub(crate) fn integer_item<'a>(
     content: &'a [u8],
 ) -> Result<Item<'a>, Fault>
     ensures { (nodes : List Node) (depth of : ℕ) →
-        Judges (IsOfKind coding nodes depth of kinds.Integer (parts_of head content.now)) result }
+        Judges (IsOfKind coding nodes depth of kinds.Integer (head_parts head content.now)) result }
 {
     if head.constructed {
         return Err(Fault::Refused);
@@ -137,7 +137,7 @@ pub(crate) fn enumerated_item<'a>(
     head: Head,
     content: &'a [u8],
 ) -> Result<Item<'a>, Fault>
-    ensures { Judges (IsListed numbers.now extensible (parts_of head content.now)) result }
+    ensures { Judges (IsListed numbers.now extensible (head_parts head content.now)) result }
 {
     if head.constructed {
         return Err(Fault::Refused);

@@ -1,7 +1,7 @@
 //! Tapes that own their octets. They outlive what they were copied from, and may be made item by item.
 ghost use Rattle.std.specs.Prelude.{ℕ, List, [], ◌∷◌, ◌≡◌, ◌↔◌, OnOk, IfOk, IsTrue, length, drop};
 ghost use Rattle.asn1_schema.specs.Tape.{Mark, begin_mark, between, end_mark, mark, marks};
-ghost use Rattle.asn1_schema.specs.Owned.{Appends, lent, filled, span, owned_marks};
+ghost use Rattle.asn1_schema.specs.Owned.{Appends, lent, item_with_octets, span, owned_marks};
 
 use crate::tape::Item;
 use std::alloc::{AllocError, Global};
@@ -43,8 +43,8 @@ fn octets_lent<'a>(item: &Item<'a>) -> &'a [u8]
 
 /// The item with other octets.
 fn with_octets<'b>(item: &Item<'_>, octets: &'b [u8]) -> Item<'b>
-    ensures other { mark result ≡ filled item.now octets.now }
-    ensures same { (o : List ℕ) → filled result o ≡ filled item.now o }
+    ensures other { mark result ≡ item_with_octets item.now octets.now }
+    ensures same { (o : List ℕ) → item_with_octets result o ≡ item_with_octets item.now o }
 {
     match item {
         Item::Boolean(truth) => Item::Boolean(*truth),

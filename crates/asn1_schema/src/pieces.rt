@@ -7,7 +7,7 @@ ghost use Rattle.asn1_schema.specs.Values.{joined};
 ghost use Rattle.asn1_schema.specs.declared.coding.Coding.{Coding};
 ghost use Rattle.asn1_schema.specs.Grammar.{StringOf};
 ghost use Rattle.asn1_schema.specs.Tape.{Mark, mark, marks, pieces_mark};
-ghost use Rattle.asn1_schema.specs.Reading.{parts_of, HoldsAt, Judges, ReadsValue};
+ghost use Rattle.asn1_schema.specs.Reading.{head_parts, HoldsAt, Judges, ReadsValue};
 ghost use Rattle.asn1_schema.specs.Pieces.{Elem, string_of, piece_mark, IsPiece, ArePieces};
 ghost use Rattle.asn1_schema.specs.Pieces.{SaysPiece, ReadsPieces, ClosesPieces, IsSaid, IsStringOf, IsPrimitiveOf};
 ghost use Rattle.asn1_schema.specs.Pieces.{IsConstructedOf};
@@ -95,7 +95,7 @@ fn read_piece<'a>(
     tape: &mut Vec<Item<'a>>,
 ) -> Result<bool, Fault>
     ensures { (d : ℕ) → HoldsAt depth result d → ReadsPieces coding sort
-        (IsPiece coding (string_of coding sort) d (parts_of head content.now))
+        (IsPiece coding (string_of coding sort) d (head_parts head content.now))
         tape.old.items tape.new.items result }
 {
     if head.class != 0 || head.number != piece_number(sort) {
@@ -260,7 +260,7 @@ pub(crate) fn read_string<'a>(
     tape: &mut Vec<Item<'a>>,
 ) -> Result<(), Fault>
     ensures { (d : ℕ) → HoldsAt depth result d →
-        ReadsValue (IsStringOf coding sort d (parts_of head content.now)) tape.old.items
+        ReadsValue (IsStringOf coding sort d (head_parts head content.now)) tape.old.items
         tape.new.items result }
 {
     if !head.constructed {

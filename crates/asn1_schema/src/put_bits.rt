@@ -10,7 +10,7 @@ ghost use Rattle.asn1_schema.specs.Grammar.{bits_in, trimmed, IsBitContent};
 ghost use Rattle.asn1_schema.specs.Bits.{used_bits, first_bits};
 ghost use Rattle.asn1_schema.specs.Values.{bits};
 ghost use Rattle.asn1_schema.specs.Tape.{pieces_end_mark};
-ghost use Rattle.asn1_schema.specs.Writing.{before, Answers, Writes, IsContent, IsPlainBits, Pushes};
+ghost use Rattle.asn1_schema.specs.Writing.{before, WritingAnswers, Writes, IsContentOfKind, IsPlainBits, Pushes};
 ghost use Rattle.asn1_schema.specs.Writing.{IsPending, LeavesUnused, JoinsBits, PutsBitPieces, NoPieces};
 
 use crate::bits::{bit_content, ends_in_one};
@@ -156,7 +156,7 @@ fn push_pieces(
     requires pending { IsPending pending }
     requires within { start ≤ end }
     requires tape { end ≤ length tape.now }
-    ensures { Answers (λ last. JoinsBits tape.now start end pending buf.old buf.new last)
+    ensures { WritingAnswers (λ last. JoinsBits tape.now start end pending buf.old buf.new last)
         (NoPieces bits tape.now start end) buf.old buf.new result }
 {
     let mut so_far = pending;
@@ -183,7 +183,7 @@ pub(crate) fn put_bit_pieces(
 ) -> Result<(), Fault>
     requires within { start ≤ end }
     requires tape { end ≤ length tape.now }
-    ensures { Answers (λ _. PutsBitPieces tape.now start end buf.old buf.new)
+    ensures { WritingAnswers (λ _. PutsBitPieces tape.now start end buf.old buf.new)
         (NoPieces bits tape.now start end) buf.old buf.new result }
 {
     let Some(unused) = unused_behind(tape, start, end) else {
@@ -260,7 +260,7 @@ pub(crate) fn put_bits(
 ) -> Result<usize, Fault>
     requires { at ≤ length tape.now }
     ensures { (nodes : List Node) (depth : ℕ) →
-        Writes (IsContent nodes depth (kinds.Bits named)) tape.now at buf.old buf.new result }
+        Writes (IsContentOfKind nodes depth (kinds.Bits named)) tape.now at buf.old buf.new result }
 {
     let held = buf.len();
     match put_plain_bits(tape, at, buf) {

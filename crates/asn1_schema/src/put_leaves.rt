@@ -7,7 +7,7 @@ ghost use Rattle.asn1_schema.specs.declared.schema.Node.{Node};
 ghost use Rattle.asn1_schema.specs.declared.schema.Kind.TheVariants as kinds;
 ghost use Rattle.asn1_schema.specs.Reading.{IsListed};
 ghost use Rattle.asn1_schema.specs.Rules.{IsStrictTruth};
-ghost use Rattle.asn1_schema.specs.Writing.{Writes, IsContent, primitive};
+ghost use Rattle.asn1_schema.specs.Writing.{Writes, IsContentOfKind, primitive};
 
 use crate::elements::Head;
 use crate::endings::{last_boolean, last_enumerated, last_identifier, last_integer, last_null};
@@ -30,7 +30,7 @@ fn truth_octet(value: bool) -> u8
 pub(crate) fn put_boolean(tape: &[Item<'_>], at: usize, buf: &mut DerBuffer) -> Result<usize, Fault>
     requires { at ≤ length tape.now }
     ensures { (nodes : List Node) (depth : ℕ) →
-        Writes (IsContent nodes depth kinds.Boolean) tape.now at buf.old buf.new result }
+        Writes (IsContentOfKind nodes depth kinds.Boolean) tape.now at buf.old buf.new result }
 {
     match last_boolean(tape, at) {
         Some(value) => put_at(&[truth_octet(value)], at - 1, buf),
@@ -42,7 +42,7 @@ pub(crate) fn put_boolean(tape: &[Item<'_>], at: usize, buf: &mut DerBuffer) -> 
 pub(crate) fn put_null(tape: &[Item<'_>], at: usize, buf: &mut DerBuffer) -> Result<usize, Fault>
     requires { at ≤ length tape.now }
     ensures { (nodes : List Node) (depth : ℕ) →
-        Writes (IsContent nodes depth kinds.Null) tape.now at buf.old buf.new result }
+        Writes (IsContentOfKind nodes depth kinds.Null) tape.now at buf.old buf.new result }
 {
     match last_null(tape, at) {
         Some(()) => put_at(&[], at - 1, buf),
@@ -85,7 +85,7 @@ fn shortest_integer(octets: &[u8]) -> &[u8]
 pub(crate) fn put_integer(tape: &[Item<'_>], at: usize, buf: &mut DerBuffer) -> Result<usize, Fault>
     requires { at ≤ length tape.now }
     ensures { (nodes : List Node) (depth : ℕ) →
-        Writes (IsContent nodes depth kinds.Integer) tape.now at buf.old buf.new result }
+        Writes (IsContentOfKind nodes depth kinds.Integer) tape.now at buf.old buf.new result }
 {
     match last_integer(tape, at) {
         Some(octets) => put_at(shortest_integer(octets), at - 1, buf),
@@ -140,7 +140,7 @@ pub(crate) fn put_identifier(
 ) -> Result<usize, Fault>
     requires { at ≤ length tape.now }
     ensures { (nodes : List Node) (depth : ℕ) →
-        Writes (IsContent nodes depth (kinds.Identifier relative)) tape.now at buf.old buf.new
+        Writes (IsContentOfKind nodes depth (kinds.Identifier relative)) tape.now at buf.old buf.new
         result }
 {
     match last_identifier(relative, tape, at) {

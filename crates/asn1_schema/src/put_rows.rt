@@ -6,7 +6,7 @@ ghost use Rattle.x690.specs.Octets.{IsBeforeOrSame};
 ghost use Rattle.asn1_schema.specs.Values.{measure};
 ghost use Rattle.asn1_schema.specs.Tape.{Mark, Kept, KeptRow, marks, tape_of, tapes_of, value_of, values_of};
 ghost use Rattle.asn1_schema.specs.Reading.{JudgesBounds};
-ghost use Rattle.asn1_schema.specs.Writing.{before, BeginsRow, BeginsArm, members, row_behind};
+ghost use Rattle.asn1_schema.specs.Writing.{before, BeginsRow, BeginsArm, member_count, row_behind};
 ghost use Rattle.asn1_schema.specs.Writing.{FirstIs, order_of};
 
 use crate::bounds::judge_bounds;
@@ -86,7 +86,7 @@ fn behind_fields<'t, 'a>(items: &'t [Item<'a>], places: usize) -> &'t [Item<'a>]
 /// How many fields or members stand in a row of items.
 fn count_members(items: &[Item<'_>]) -> usize
     ensures { (kept : KeptRow) → marks items.now ≡ tapes_of kept →
-        result ≡ members (values_of kept) }
+        result ≡ member_count (values_of kept) }
 {
     let mut count = 0;
     let mut rest = items;
@@ -105,7 +105,7 @@ pub(crate) fn count_behind(places: usize, tape: &[Item<'_>], items: usize, end: 
     requires { end ≤ length tape.now }
     ensures { (front : List Mark) (kept : KeptRow) → before tape.now end ≡ front ++ tapes_of kept →
         length (tapes_of kept) ≡ items →
-        result ≡ members (values_of (row_behind places kept)) }
+        result ≡ member_count (values_of (row_behind places kept)) }
 {
     let start = end.saturating_sub(items);
     let row = &tape[start..end];
@@ -124,7 +124,7 @@ pub(crate) fn count_unknown(
     requires { end ≤ length tape.now }
     ensures some { (front : List Mark) (kept : KeptRow) →
         before tape.now end ≡ front ++ tapes_of kept → length (tapes_of kept) ≡ items →
-        IfSome unknown (λ t. result ≡ members (values_of (row_behind places kept))) }
+        IfSome unknown (λ t. result ≡ member_count (values_of (row_behind places kept))) }
     ensures none { IfNone unknown (result ≡ 0) }
 {
     match unknown {

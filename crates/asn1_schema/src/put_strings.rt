@@ -3,7 +3,7 @@ ghost use Rattle.std.specs.Prelude.{ℕ, List, [], ◌∷◌, ◌++◌, ◌-◌,
 ghost use Rattle.asn1_schema.specs.declared.schema.Node.{Node};
 ghost use Rattle.asn1_schema.specs.declared.schema.Kind.TheVariants as kinds;
 ghost use Rattle.asn1_schema.specs.Tape.{string, pieces_end_mark};
-ghost use Rattle.asn1_schema.specs.Writing.{before, Answers, Writes, IsContent, IsPlainString, sort_of};
+ghost use Rattle.asn1_schema.specs.Writing.{before, WritingAnswers, Writes, IsContentOfKind, IsPlainString, sort_of};
 ghost use Rattle.asn1_schema.specs.Writing.{BeginPieces, JoinsPieces, NoPieces};
 
 use crate::coding::Coding;
@@ -45,7 +45,7 @@ fn put_pieces(
 ) -> Result<(), Fault>
     requires within { start ≤ end }
     requires tape { end ≤ length tape.now }
-    ensures { Answers (λ _. JoinsPieces (sort_of sort) tape.now start end buf.old buf.new)
+    ensures { WritingAnswers (λ _. JoinsPieces (sort_of sort) tape.now start end buf.old buf.new)
         (NoPieces (string (sort_of sort)) tape.now start end) buf.old buf.new result }
 {
     let mut rest = end;
@@ -107,7 +107,7 @@ fn put_string(
 pub(crate) fn put_octets(tape: &[Item<'_>], at: usize, buf: &mut DerBuffer) -> Result<usize, Fault>
     requires { at ≤ length tape.now }
     ensures { (nodes : List Node) (depth : ℕ) →
-        Writes (IsContent nodes depth kinds.Octets) tape.now at buf.old buf.new result }
+        Writes (IsContentOfKind nodes depth kinds.Octets) tape.now at buf.old buf.new result }
 {
     put_string(StringSort::Octets, tape, at, buf)
 }
@@ -121,7 +121,7 @@ pub(crate) fn put_text(
 ) -> Result<usize, Fault>
     requires { at ≤ length tape.now }
     ensures { (nodes : List Node) (depth : ℕ) →
-        Writes (IsContent nodes depth (kinds.Text kind)) tape.now at buf.old buf.new result }
+        Writes (IsContentOfKind nodes depth (kinds.Text kind)) tape.now at buf.old buf.new result }
 {
     let held = buf.len();
     match put_string(StringSort::Text(kind), tape, at, buf) {
@@ -144,7 +144,7 @@ pub(crate) fn put_time(
 ) -> Result<usize, Fault>
     requires { at ≤ length tape.now }
     ensures { (nodes : List Node) (depth : ℕ) →
-        Writes (IsContent nodes depth (kinds.Time kind)) tape.now at buf.old buf.new result }
+        Writes (IsContentOfKind nodes depth (kinds.Time kind)) tape.now at buf.old buf.new result }
 {
     let held = buf.len();
     match put_string(StringSort::Time(kind), tape, at, buf) {

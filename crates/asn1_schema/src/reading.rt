@@ -3,10 +3,10 @@ ghost use Rattle.std.specs.Prelude.{ℕ, List, ◌≡◌, ◌<◌, true, false, 
 ghost use Rattle.asn1_schema.specs.declared.fault.Fault.TheVariants as faults;
 ghost use Rattle.asn1_schema.specs.Refusals.{IsTold, HasFieldsAt, HasElementsAt, IsSetAt};
 ghost use Rattle.asn1_schema.specs.Grammar.{AreUnknown};
-ghost use Rattle.asn1_schema.specs.Sound.{is_sound, fields_told, arms_told, all_before};
-ghost use Rattle.asn1_schema.specs.Reading.{rules_of, parts_of, IsBody, IsArmOf, AreFieldsOf, AreItemsOf};
-ghost use Rattle.asn1_schema.specs.Reading.{IsRowOf, IsWordOf, BeginsWord, ReadsValue, ReadsRow, ReadsFront};
-ghost use Rattle.asn1_schema.specs.Reading.{ReadsField, BeginsTagged, HoldsAt};
+ghost use Rattle.asn1_schema.specs.Sound.{is_sound, fields_unambiguous, arms_unambiguous, all_before};
+ghost use Rattle.asn1_schema.specs.Reading.{rules_of, head_parts, IsBody, IsArmOf, AreFieldsOf, AreItemsOf};
+ghost use Rattle.asn1_schema.specs.Reading.{IsRowOf, IsWordOf, BeginsWord, ReadsValue, ReadsValues, ReadsPrefix};
+ghost use Rattle.asn1_schema.specs.Reading.{ReadsByPresence, BeginsTagged, HoldsAt};
 ghost use Rattle.asn1_schema.specs.Members.{AreElements, IsSetOf, AreMembersOf, AreOthersOf};
 ghost use Rattle.asn1_schema.specs.Members.{ReadsLeftOut, ReadsMember, ReadsOther, others_than};
 ghost use Rattle.x690.specs.Elements.{Parts};
@@ -42,7 +42,7 @@ fn read_body<'a>(
 ) -> Result<(), Fault>
     requires { is_sound nodes.now ≡ true }
     ensures value { (d : ℕ) → HoldsAt depth result d →
-        ReadsValue (IsBody coding nodes.now d of (parts_of head content.now))
+        ReadsValue (IsBody coding nodes.now d of (head_parts head content.now))
         tape.old.items tape.new.items result }
     ensures told { result ≡ Err faults.Refused → IsTold nodes.now None refusal.new }
 {
@@ -206,11 +206,11 @@ fn read_choice<'a>(
     refusal: &mut Refusal,
 ) -> Result<(), Fault>
     requires sound { is_sound nodes.now ≡ true }
-    requires told { arms_told nodes.now arms.now ≡ true }
+    requires told { arms_unambiguous nodes.now arms.now ≡ true }
     requires within { of < length nodes.now }
     requires order { all_before of arms.now ≡ true }
     ensures value { (d : ℕ) → HoldsAt depth result d →
-        ReadsValue (IsArmOf coding nodes.now d arms.now (parts_of head content.now))
+        ReadsValue (IsArmOf coding nodes.now d arms.now (head_parts head content.now))
         tape.old.items tape.new.items result }
     ensures told { result ≡ Err faults.Refused → IsTold nodes.now None refusal.new }
 {
@@ -242,7 +242,7 @@ pub(crate) fn read_front<'a>(
 ) -> Result<&'a [u8], Fault>
     requires { is_sound nodes.now ≡ true }
     ensures value { (d : ℕ) → HoldsAt depth result d →
-        ReadsFront (BeginsWord coding nodes.now d of octets.now)
+        ReadsPrefix (BeginsWord coding nodes.now d of octets.now)
         tape.old.items tape.new.items result }
     ensures shorter { IfOk result (λ rest. length rest.now < length octets.now) }
     ensures told { result ≡ Err faults.Refused → IsTold nodes.now None refusal.new }
@@ -307,7 +307,7 @@ fn read_row<'a>(
     refusal: &mut Refusal,
 ) -> Result<(), Fault>
     requires sound { is_sound nodes.now ≡ true }
-    requires told { fields_told false nodes.now unknown fields.now ≡ true }
+    requires told { fields_unambiguous false nodes.now unknown fields.now ≡ true }
     ensures value { (d : ℕ) → HoldsAt depth result d →
         ReadsValue (IsRowOf coding nodes.now d unknown fields.now constructed octets.now)
         tape.old.items tape.new.items result }
@@ -344,9 +344,9 @@ fn read_fields<'a>(
     refusal: &mut Refusal,
 ) -> Result<(), Fault>
     requires sound { is_sound nodes.now ≡ true }
-    requires told { fields_told false nodes.now unknown fields.now ≡ true }
+    requires told { fields_unambiguous false nodes.now unknown fields.now ≡ true }
     ensures value { (d : ℕ) → HoldsAt depth result d →
-        ReadsRow (AreFieldsOf coding nodes.now d unknown fields.now octets.now)
+        ReadsValues (AreFieldsOf coding nodes.now d unknown fields.now octets.now)
         tape.old.items tape.new.items result }
     ensures told { HasFieldsAt nodes.now of fields.now →
         result ≡ Err faults.Refused → IsTold nodes.now None refusal.new }
@@ -400,7 +400,7 @@ fn read_behind<'a>(
 ) -> Result<(), Fault>
     requires { is_sound nodes.now ≡ true }
     ensures value { (d : ℕ) → HoldsAt depth result d →
-        ReadsRow (AreUnknown (rules_of coding) (IsBody coding nodes.now d) unknown octets.now)
+        ReadsValues (AreUnknown (rules_of coding) (IsBody coding nodes.now d) unknown octets.now)
         tape.old.items tape.new.items result }
     ensures told { result ≡ Err faults.Refused → IsTold nodes.now None refusal.new }
 {
@@ -430,7 +430,7 @@ fn read_items<'a>(
 ) -> Result<(), Fault>
     requires { is_sound nodes.now ≡ true }
     ensures value { (d : ℕ) → HoldsAt depth result d →
-        ReadsRow (AreItemsOf coding nodes.now d of octets.now)
+        ReadsValues (AreItemsOf coding nodes.now d of octets.now)
         tape.old.items tape.new.items result }
     ensures told { result ≡ Err faults.Refused → IsTold nodes.now None refusal.new }
 {
@@ -467,7 +467,7 @@ fn read_field<'a>(
 ) -> Result<&'a [u8], Fault>
     requires { is_sound nodes.now ≡ true }
     ensures value { (d : ℕ) → HoldsAt depth result d →
-        ReadsField (rules_of coding) (IsBody coding nodes.now d field.now.of)
+        ReadsByPresence (rules_of coding) (IsBody coding nodes.now d field.now.of)
         (BeginsTagged (rules_of coding) nodes.now field.now.of octets.now) field.now.presence
         octets.now
         tape.old.items tape.new.items result }
@@ -536,7 +536,7 @@ fn read_set<'a>(
     refusal: &mut Refusal,
 ) -> Result<(), Fault>
     requires sound { is_sound nodes.now ≡ true }
-    requires told { fields_told true nodes.now unknown fields.now ≡ true }
+    requires told { fields_unambiguous true nodes.now unknown fields.now ≡ true }
     ensures value { (d : ℕ) → HoldsAt depth result d →
         ReadsValue (IsSetOf coding nodes.now d unknown fields.now constructed octets.now)
         tape.old.items tape.new.items result }
@@ -576,10 +576,10 @@ fn read_members<'a>(
     refusal: &mut Refusal,
 ) -> Result<(), Fault>
     requires sound { is_sound nodes.now ≡ true }
-    requires told { fields_told true nodes.now unknown fields.now ≡ true }
+    requires told { fields_unambiguous true nodes.now unknown fields.now ≡ true }
     ensures value { (es : List Parts) → AreElements coding octets.now es → (d : ℕ) →
         HoldsAt depth result d →
-        ReadsRow (AreMembersOf coding nodes.now d unknown fields.now es)
+        ReadsValues (AreMembersOf coding nodes.now d unknown fields.now es)
         tape.old.items tape.new.items result }
     ensures told { HasFieldsAt nodes.now of fields.now →
         result ≡ Err faults.Refused → IsTold nodes.now None refusal.new }
@@ -648,7 +648,7 @@ fn read_others<'a>(
     requires { is_sound nodes.now ≡ true }
     ensures value { (es : List Parts) → AreElements coding octets.now es → (d : ℕ) →
         HoldsAt depth result d →
-        ReadsRow (AreOthersOf coding nodes.now d unknown (others_than nodes.now fields.now es))
+        ReadsValues (AreOthersOf coding nodes.now d unknown (others_than nodes.now fields.now es))
         tape.old.items tape.new.items result }
     ensures told { result ≡ Err faults.Refused → IsTold nodes.now None refusal.new }
 {
@@ -684,7 +684,7 @@ fn read_other<'a>(
 ) -> Result<(), Fault>
     requires { is_sound nodes.now ≡ true }
     ensures value { (d : ℕ) → HoldsAt depth result d →
-        ReadsOther coding nodes.now d unknown fields.now (parts_of head content.now)
+        ReadsOther coding nodes.now d unknown fields.now (head_parts head content.now)
         tape.old.items tape.new.items result }
     ensures told { result ≡ Err faults.Refused → IsTold nodes.now None refusal.new }
 {

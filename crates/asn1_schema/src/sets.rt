@@ -7,8 +7,8 @@ ghost use Rattle.asn1_schema.specs.declared.schema.Node.{Node};
 ghost use Rattle.asn1_schema.specs.Sound.{node_at};
 ghost use Rattle.asn1_schema.specs.Refusals.{IsOfType, IsTold};
 ghost use Rattle.asn1_schema.specs.Rules.{IsTagBefore};
-ghost use Rattle.asn1_schema.specs.Reading.{id_of, parts_of};
-ghost use Rattle.asn1_schema.specs.Members.{AreElements, AreOrdered, MayFollow, FindsFirst, Finds, Lacks};
+ghost use Rattle.asn1_schema.specs.Reading.{id_of, head_parts};
+ghost use Rattle.asn1_schema.specs.Members.{AreElements, AreOrdered, MayFollow, FindsFirst, FindsTagged, Lacks};
 ghost use Rattle.asn1_schema.specs.Members.{is_of_field};
 
 use crate::coding::Coding;
@@ -90,7 +90,7 @@ fn find_first<'a>(
     at: usize,
 ) -> Option<(&'a [u8], Head, &'a [u8])>
     ensures some { IfSome result (λ x. (es : List Parts) → AreElements coding octets.now es →
-        FindsFirst coding nodes.now of es (parts_of x.1 x.2.now) x.0.now) }
+        FindsFirst coding nodes.now of es (head_parts x.1 x.2.now) x.0.now) }
     ensures none { IfNone result ((es : List Parts) → AreElements coding octets.now es →
         Each (Lacks nodes.now of) es) }
 {
@@ -116,7 +116,8 @@ pub(crate) fn find_alone<'a>(
     octets: &'a [u8],
     at: usize,
 ) -> Found<'a>
-    ensures { (es : List Parts) → AreElements coding octets.now es → Finds nodes.now of es result }
+    ensures { (es : List Parts) → AreElements coding octets.now es →
+        FindsTagged nodes.now of es result }
 {
     let Some((tail, head, content)) = find_first(coding, nodes, of, octets, at) else {
         return Found::Nothing;

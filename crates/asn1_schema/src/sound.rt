@@ -64,7 +64,7 @@ fn shared_tag(tag: Option<TypeTag>) -> Option<Shared>
 
 /// What tags and others have in common.
 fn meeting(tags: &Tags, others: &Tags) -> Option<Shared>
-    ensures { is_none result ≡ spec.are_apart tags.now others.now }
+    ensures { is_none result ≡ spec.tags_disjoint tags.now others.now }
 {
     match tags {
         Tags::Among(xs) => match others {
@@ -190,7 +190,8 @@ fn field_meeting(
     others: &[Field],
 ) -> Option<Follower>
     ensures { is_none result ≡ (not (spec.is_told every field.now.presence)
-        || spec.field_told every table.now unknown (spec.node_at table.now field.now.of) others.now) }
+        || spec.field_unambiguous every table.now unknown (spec.node_at table.now field.now.of)
+        others.now) }
 {
     if !is_told(every, &field.presence) {
         return None;
@@ -220,7 +221,7 @@ fn fields_fault(
     unknown: Option<usize>,
     fields: &[Field],
 ) -> Option<TypeFault>
-    ensures { is_none result ≡ spec.fields_told every table.now unknown fields.now }
+    ensures { is_none result ≡ spec.fields_unambiguous every table.now unknown fields.now }
 {
     let mut left = fields;
     while let Some((field, others)) = left.split_first() {
@@ -247,7 +248,8 @@ fn arm_meeting(table: &[Node], tags: &Tags, arms: &[usize]) -> Option<(usize, Sh
 
 /// The first of the other arms from which an arm is not told, if its type is there.
 fn arm_follower(table: &[Node], arm: usize, others: &[usize]) -> Option<(usize, Shared)>
-    ensures { is_none result ≡ spec.arm_told table.now (spec.node_at table.now arm) others.now }
+    ensures { is_none result ≡ spec.arm_unambiguous table.now (spec.node_at table.now arm)
+        others.now }
 {
     match node_at(table, arm) {
         None => None,
@@ -257,7 +259,7 @@ fn arm_follower(table: &[Node], arm: usize, others: &[usize]) -> Option<(usize, 
 
 /// The first two arms that are not told apart.
 fn arms_fault(table: &[Node], arms: &[usize]) -> Option<TypeFault>
-    ensures { is_none result ≡ spec.arms_told table.now arms.now }
+    ensures { is_none result ≡ spec.arms_unambiguous table.now arms.now }
 {
     let mut left = arms;
     while let Some((arm, others)) = left.split_first() {
@@ -273,7 +275,7 @@ fn arms_fault(table: &[Node], arms: &[usize]) -> Option<TypeFault>
 
 /// The first arm of which the tags do not hold all.
 fn arm_not_held(table: &[Node], tags: &Tags, arms: &[usize]) -> Option<usize>
-    ensures { is_none result ≡ spec.arms_held table.now tags.now arms.now }
+    ensures { is_none result ≡ spec.arms_included table.now tags.now arms.now }
 {
     for (place, arm) in arms.iter().enumerate() {
         if !holds(table, tags, *arm) {
@@ -334,7 +336,7 @@ fn row_fault(
     unknown: Option<usize>,
 ) -> Option<TypeFault>
     ensures { is_none result ≡
-        (spec.is_single tags.now && spec.fields_told every table.now unknown fields.now) }
+        (spec.is_single tags.now && spec.fields_unambiguous every table.now unknown fields.now) }
 {
     if is_single(tags) {
         return fields_fault(every, table, unknown, fields);
@@ -345,7 +347,8 @@ fn row_fault(
 /// What is wrong with a choice.
 fn choice_fault(table: &[Node], tags: &Tags, arms: &[usize]) -> Option<TypeFault>
     ensures { is_none result ≡
-        (spec.arms_told table.now arms.now && spec.arms_held table.now tags.now arms.now) }
+        (spec.arms_unambiguous table.now arms.now &&
+        spec.arms_included table.now tags.now arms.now) }
 {
     if let Some(fault) = arms_fault(table, arms) {
         return Some(fault);
@@ -358,7 +361,7 @@ fn choice_fault(table: &[Node], tags: &Tags, arms: &[usize]) -> Option<TypeFault
 
 /// What is wrong with the parts of a type. All but a choice, bounds and any element have one tag.
 fn kind_fault(table: &[Node], tags: &Tags, kind: &Kind) -> Option<TypeFault>
-    ensures { is_none result ≡ spec.kind_told table.now tags.now kind.now }
+    ensures { is_none result ≡ spec.kind_unambiguous table.now tags.now kind.now }
 {
     match kind {
         Kind::Sequence(fields, unknown) => row_fault(false, table, tags, fields, *unknown),
@@ -389,7 +392,7 @@ fn kind_fault(table: &[Node], tags: &Tags, kind: &Kind) -> Option<TypeFault>
 
 /// What is wrong with the tags of a type, or with its parts.
 fn node_fault(table: &[Node], node: &Node) -> Option<TypeFault>
-    ensures { is_none result ≡ spec.node_told table.now node.now }
+    ensures { is_none result ≡ spec.node_unambiguous table.now node.now }
 {
     if let Some(fault) = class_fault(&node.tags) {
         return Some(fault);
@@ -399,7 +402,7 @@ fn node_fault(table: &[Node], node: &Node) -> Option<TypeFault>
 
 /// The first type with which something is wrong.
 fn first_not_told(table: &[Node]) -> Option<Unsound>
-    ensures { is_none result ≡ spec.all_told table.now table.now }
+    ensures { is_none result ≡ spec.all_unambiguous table.now table.now }
 {
     for (of, node) in table.iter().enumerate() {
         if let Some(fault) = node_fault(table, node) {

@@ -3,7 +3,7 @@ ghost use Rattle.std.specs.Prelude.{ℕ, ◌≡◌, ◌≢◌, true, OnOk, OnErr
 ghost use Rattle.asn1_schema.specs.declared.decode.DecodeError.TheVariants as decode_errors;
 ghost use Rattle.asn1_schema.specs.declared.strictness.NotStrict.TheVariants as errors;
 ghost use Rattle.asn1_schema.specs.Decoding.{DecodesWhole};
-ghost use Rattle.asn1_schema.specs.Differing.{FirstDiffer, IsNotStrict, IsDerOf, HasOther, HasNone};
+ghost use Rattle.asn1_schema.specs.Differing.{FirstDiffer, IsNotStrict, IsDerOf, HasOther, HasNoEncoding};
 ghost use Rattle.asn1_schema.specs.Grammar.{Word};
 ghost use Rattle.asn1_schema.specs.Rules.{der, strict};
 ghost use Rattle.asn1_schema.specs.Sound.{is_sound};
@@ -78,7 +78,7 @@ fn compare(
     ensures differs { (n : ℕ) → IsErrOf result (errors.Differs n) →
         IsDerOf table.now depth of octets.now tape.now (HasOther table.now depth of octets.now n) }
     ensures none { IsErrOf result errors.NoEncoding →
-        IsDerOf table.now depth of octets.now tape.now (HasNone table.now depth of) }
+        IsDerOf table.now depth of octets.now tape.now (HasNoEncoding table.now depth of) }
     ensures is_der { (e : DecodeError) → IsErrOf result (errors.NotDer e) → ⊥ }
 {
     match encode_der_vec(alloc, table, of, depth, tape) {
@@ -111,7 +111,7 @@ pub fn decode_strict<'a>(
     ensures differs { (n : ℕ) → IsErrOf result (errors.Differs n) →
         IsDerOf table.now depth of octets.now tape.new.items (HasOther table.now depth of octets.now n) }
     ensures none { IsErrOf result errors.NoEncoding →
-        IsDerOf table.now depth of octets.now tape.new.items (HasNone table.now depth of) }
+        IsDerOf table.now depth of octets.now tape.new.items (HasNoEncoding table.now depth of) }
     ensures not_der { (e : DecodeError) → IsErrOf result (errors.NotDer e) →
         (v : Value) → Word der table.now depth of octets.now v → ⊥ }
 {

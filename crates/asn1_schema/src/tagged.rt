@@ -1,11 +1,11 @@
 //! Elements with the tags of a type (X.680 31).
 ghost use Rattle.std.specs.Prelude.{ℕ, ◌≡◌, Some, None, slice_get, IfSome, IfNone, IsTrue};
 ghost use Rattle.std.specs.List.{list_any};
-ghost use Rattle.asn1_headers.specs.Answers.{Front};
+ghost use Rattle.asn1_headers.specs.Answers.{HasPrefix};
 ghost use Rattle.asn1_schema.specs.Grammar.{has_tag, is_tag_of};
 ghost use Rattle.asn1_schema.specs.Build.{has_tag_at};
 ghost use Rattle.asn1_schema.specs.Sound.{HasTagAt};
-ghost use Rattle.asn1_schema.specs.Reading.{rules_of, id_of, parts_of, BeginsTagged};
+ghost use Rattle.asn1_schema.specs.Reading.{rules_of, id_of, head_parts, BeginsTagged};
 
 use crate::coding::Coding;
 use crate::elements::{Head, element};
@@ -57,7 +57,8 @@ pub(crate) fn tagged_element<'a>(
     octets: &'a [u8],
     at: usize,
 ) -> Option<(&'a [u8], Head, &'a [u8])>
-    ensures some { IfSome result (λ x. Front (rules_of coding).ElementOf octets.now (parts_of x.1
+    ensures some { IfSome result (λ x. HasPrefix (rules_of coding).ElementOf octets.now
+        (head_parts x.1
         x.2.now) x.0.now) }
     ensures tagged { IfSome result (λ x. HasTagAt nodes.now of (id_of x.1)) }
     ensures none { IfNone result (BeginsTagged (rules_of coding) nodes.now of octets.now → ⊥) }

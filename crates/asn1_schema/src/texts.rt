@@ -4,7 +4,7 @@ ghost use Rattle.x690.specs.Sets.{AllIn};
 ghost use Rattle.x690.specs.Characters.{code_of, Codes};
 ghost use Rattle.asn1_schema.specs.declared.schema.TextKind.TheVariants as texts;
 ghost use Rattle.asn1_schema.specs.Grammar.{IsText};
-ghost use Rattle.asn1_schema.specs.Joined.{IsFront, said};
+ghost use Rattle.asn1_schema.specs.Joined.{AreWholeCharacters, said};
 
 use crate::joined::{Joined, behind, first_four};
 use crate::schema::TextKind;
@@ -55,7 +55,7 @@ pub(crate) fn is_text(kind: TextKind, content: &[u8]) -> bool
 /// How many octets at the front are characters in UTF-8, of these that are four or all.
 fn utf8_front(octets: &[u8]) -> usize
     requires { 0 < length octets.now }
-    ensures { IsFront IsUtf8 octets.now result }
+    ensures { AreWholeCharacters IsUtf8 octets.now result }
 {
     match str::from_utf8(octets) {
         Ok(_) => octets.len(),
@@ -66,7 +66,7 @@ fn utf8_front(octets: &[u8]) -> usize
 /// How many octets at the front are of a set: all of these, or else none.
 fn set_front<S: CharacterSet>(octets: &[u8]) -> usize
     requires { 0 < length octets.now }
-    ensures { IsFront (AllIn S.in_set) octets.now result }
+    ensures { AreWholeCharacters (AllIn S.in_set) octets.now result }
 {
     if all_in::<S>(octets) {
         return octets.len();
@@ -77,7 +77,8 @@ fn set_front<S: CharacterSet>(octets: &[u8]) -> usize
 /// How many octets at the front are a character in a code, of these that are four or all.
 fn code_front<C: CharacterCode>(octets: &[u8]) -> usize
     requires { 0 < length octets.now }
-    ensures { IsFront (λ o. (cs : List ℕ) × Codes (code_of C.octets_of) o cs) octets.now result }
+    ensures { AreWholeCharacters (λ o. (cs : List ℕ) × Codes (code_of C.octets_of) o cs) octets.now
+        result }
 {
     match C::first(octets) {
         Some((_, others)) => octets.len() - others.len(),
@@ -88,7 +89,7 @@ fn code_front<C: CharacterCode>(octets: &[u8]) -> usize
 /// How many octets at the front are characters of the type, of these that are four or all.
 fn text_front(kind: TextKind, octets: &[u8]) -> usize
     requires { 0 < length octets.now }
-    ensures { IsFront (IsText kind) octets.now result }
+    ensures { AreWholeCharacters (IsText kind) octets.now result }
 {
     match kind {
         TextKind::Utf8 => utf8_front(octets),

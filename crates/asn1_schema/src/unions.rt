@@ -3,7 +3,7 @@ ghost use Rattle.std.specs.Prelude.{◌≡◌, ◌||◌, ◌&&◌, not, IfOk};
 ghost use Rattle.std.specs.List.{list_any};
 ghost use Rattle.x690.specs.Identifiers.{Identifier};
 ghost use Rattle.asn1_schema.specs.Grammar.{has_tag, is_tag_of};
-ghost use Rattle.asn1_schema.specs.Build.{IsTagged, Tells};
+ghost use Rattle.asn1_schema.specs.Build.{IsTagged, Decides};
 
 use crate::build::BuildError;
 use crate::schema::{Tags, TypeTag};
@@ -47,7 +47,7 @@ fn left(alloc: Global, tags: &[TypeTag], others: &[TypeTag]) -> Result<Vec<TypeT
 
 /// The tags and others.
 pub(crate) fn united(alloc: Global, tags: Tags, others: &Tags) -> Result<Tags, BuildError>
-    ensures { IfOk result (Tells (λ id. has_tag tags id || has_tag others.now id)) }
+    ensures { IfOk result (Decides (λ id. has_tag tags id || has_tag others.now id)) }
 {
     match tags {
         Tags::Among(mut xs) => match others {
@@ -66,7 +66,7 @@ pub(crate) fn united(alloc: Global, tags: Tags, others: &Tags) -> Result<Tags, B
 
 /// Any tag but these.
 pub(crate) fn all_others(tags: Tags) -> Tags
-    ensures { Tells (λ id. not (has_tag tags id)) result }
+    ensures { Decides (λ id. not (has_tag tags id)) result }
 {
     match tags {
         Tags::Among(list) => Tags::AllBut(list),

@@ -5,7 +5,7 @@ ghost use Rattle.asn1_schema.specs.Sound.{is_sound, all_before};
 ghost use Rattle.asn1_schema.specs.Grammar.{Word};
 ghost use Rattle.asn1_schema.specs.Rules.{strict};
 ghost use Rattle.asn1_schema.specs.Writing.{Writes, WritesRow, WritesField, WritesDefault, is_tagged};
-ghost use Rattle.asn1_schema.specs.Writing.{IsContent, IsArm, IsWithinBounds, IsFieldRow, IsList, AreCounted};
+ghost use Rattle.asn1_schema.specs.Writing.{IsContentOfKind, IsArm, IsWithinBounds, IsFieldRow, IsList, AreCounted};
 ghost use Rattle.asn1_schema.specs.Writing.{AreCountedItems, IsFieldSet, AreCountedSet};
 
 use crate::endings::{last_absent, last_arm, last_end};
@@ -149,7 +149,7 @@ fn put_content(
     requires place { at ≤ length tape.now }
     requires sound { is_sound nodes.now ≡ true }
     requires tagged { is_tagged kind.now ≡ true }
-    ensures { Writes (IsContent nodes.now depth kind.now) tape.now at buf.old buf.new result }
+    ensures { Writes (IsContentOfKind nodes.now depth kind.now) tape.now at buf.old buf.new result }
 {
     match kind {
         Kind::Boolean => put_boolean(tape, at, buf),

@@ -9,7 +9,7 @@ use Rattle.x690.specs.Faults.{Fault, DerElementFault}
 use Rattle.x690.specs.Laws.Elements.{definite_element_unique, definite_element_two}
 use Rattle.x690.specs.Laws.Faults.{der_element_or_fault}
 use Rattle.asn1_strict.specs.Universal.{IsProper}
-use Rattle.asn1_strict.specs.Strict.{IsStrictDer, StrictRow, nothing, element, AllStrict, behind}
+use Rattle.asn1_strict.specs.Strict.{IsStrictDer, StrictRow, nothing, element, AllStrict, tails_length}
 
 -- what a strict row asks of the element that begins it
 abbrev pub Asks : Parts → List ℕ → Type 0
@@ -93,8 +93,8 @@ pushed items more tail view word parts m e d constructed proper =
 
 -- the octets behind
 pub behind_more : (items more : List (Bor (List ℕ))) (tail : Bor (List ℕ)) → more ≡ items ++ tail ∷ [] →
-    behind (reverse more) ≡ length tail.now + behind (reverse items)
-behind_more items more tail m = ap behind (innermost items more tail m)
+    tails_length (reverse more) ≡ length tail.now + tails_length (reverse items)
+behind_more items more tail m = ap tails_length (innermost items more tail m)
 
 -- one equivalence after another
 pub and_then : {A B C : Type 0} → (A ↔ B) → (B ↔ C) → A ↔ C

@@ -14,7 +14,7 @@ use Rattle.asn1_strict.specs.declared.requirement.Requirement.{Requirement}
 use Rattle.asn1_strict.specs.declared.requirement.Requirement.TheVariants as requirements
 use Rattle.asn1_strict.specs.Sets.{IsOrderedSet}
 use Rattle.x690.specs.Times.{IsStrictUtcText, IsStrictGeneralizedText}
-use Rattle.asn1_strict.specs.Universal.{HasCharactersOf, HasForm, IsStrictBoolean, IsStrictBits, AreShortestArcs}
+use Rattle.asn1_strict.specs.Universal.{HasCharactersOf, HasFormOf, IsStrictBoolean, IsStrictBits, AreShortestArcs}
 
 -- what an element with a fault in its header, or with cut contents, does not meet
 abbrev pub requirement_of_fault : Fault → Requirement
@@ -53,8 +53,8 @@ Meets _ number content = Unit {0}
 -- contents.
 abbrev pub Misses : Requirement → ℕ → ℕ → Bool → List ℕ → Type 0
 Misses requirement class number constructed content = (class ≡ 0) ×
-    (((requirement ≡ requirements.Form) × (HasForm number constructed → ⊥)) ⊎
-    (HasForm number constructed × (Meets requirement number content → ⊥)))
+    (((requirement ≡ requirements.Form) × (HasFormOf number constructed → ⊥)) ⊎
+    (HasFormOf number constructed × (Meets requirement number content → ⊥)))
 
 abbrev pub MissesOf : Requirement → Parts → Type 0
 MissesOf requirement parts =

@@ -30,8 +30,8 @@ abbrev pub IsConstructedType : ℕ → Type 0
 IsConstructedType number = (number ≡ 8) ⊎ (number ≡ 11) ⊎ (number ≡ 16) ⊎ (number ≡ 17) ⊎ (number ≡ 29)
 
 -- the form that the type has
-abbrev pub HasForm : ℕ → Bool → Type 0
-HasForm number constructed =
+abbrev pub HasFormOf : ℕ → Bool → Type 0
+HasFormOf number constructed =
     ((constructed ≡ true) × IsConstructedType number) ⊎ ((constructed ≡ false) × (IsConstructedType number → ⊥))
 
 -- The strings with characters of their types: BMPString in two octets each, UniversalString in four. VisibleString has
@@ -61,12 +61,12 @@ pub record HasContentOf (number : ℕ) (content : List ℕ) : Type 0 where
   pub generalized_time : number ≡ 24 → IsStrictGeneralizedText content
 
 -- the rules of an element
-abbrev pub IsUniversal : ℕ → Bool → List ℕ → Type 0
-IsUniversal number constructed content = HasForm number constructed × HasContentOf number content
+abbrev pub MeetsUniversalRules : ℕ → Bool → List ℕ → Type 0
+MeetsUniversalRules number constructed content = HasFormOf number constructed × HasContentOf number content
 
 -- an element of another class has its rules in its type alone
 abbrev pub IsProperOf : ℕ → ℕ → Bool → List ℕ → Type 0
-IsProperOf class number constructed content = class ≡ 0 → IsUniversal number constructed content
+IsProperOf class number constructed content = class ≡ 0 → MeetsUniversalRules number constructed content
 
 abbrev pub IsProper : Parts → Type 0
 IsProper parts = IsProperOf parts.id.class parts.id.number parts.id.constructed parts.content

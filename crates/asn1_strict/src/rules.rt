@@ -2,7 +2,7 @@
 ghost use Rattle.std.specs.Prelude.{◌≡◌, ◌↔◌, ◌<◌, ◌%◌, ◌^◌, IsTrue, MatchOption};
 ghost use Rattle.x690.specs.Integers.{IsShortestInteger};
 ghost use Rattle.asn1_strict.specs.Universal.{IsStrictBoolean, IsStrictBits};
-ghost use Rattle.asn1_strict.specs.Universal.{HasForm, HasCharactersOf, HasContentOf, IsProperOf};
+ghost use Rattle.asn1_strict.specs.Universal.{HasFormOf, HasCharactersOf, HasContentOf, IsProperOf};
 ghost use Rattle.asn1_strict.specs.Requirements.{Meets, Misses};
 
 use crate::requirement::Requirement;
@@ -46,7 +46,7 @@ fn is_strict_bits(content: &[u8]) -> bool
 
 /// Whether a type's elements are constructed (10.2).
 fn has_form(number: u32, constructed: bool) -> bool
-    ensures { IsTrue result ↔ HasForm number constructed }
+    ensures { IsTrue result ↔ HasFormOf number constructed }
 {
     matches!(number, 8 | 11 | 16 | 17 | 29) == constructed
 }

@@ -4,7 +4,7 @@ use Rattle.std.specs.Borrow.{Bor}
 use Rattle.std.proofs.lemmas.List.{append-nil, length-append}
 use Rattle.std.proofs.lemmas.Grind.{flat_map-append}
 use Rattle.x690.specs.Joined.{IsConcatenation}
-use Rattle.asn1_headers.specs.Answers.{Front}
+use Rattle.asn1_headers.specs.Answers.{HasPrefix}
 use Rattle.asn1_engine.specs.Trees.{sum_within}
 use Rattle.asn1_schema.specs.declared.build.Schema.{Schema}
 use Rattle.asn1_schema.specs.Reading.{IsWordOf}
@@ -30,7 +30,7 @@ word_len octets word rest is =
 
 pub row_more : (by : Decoding) (schema : Schema) (of : ℕ) (input left : Input) (shown text : List ℕ) (value : Value)
     (rest : Bor (List ℕ)) (offset : ℕ) → ValuesBefore by schema of input left shown →
-    Front (IsWordOf by.coding schema.nodes.items 64 of) left.octets.now value rest.now →
+    HasPrefix (IsWordOf by.coding schema.nodes.items 64 of) left.octets.now value rest.now →
     text ≡ value_text schema by.pretty of value →
     offset ≡ sum_within left.offset (length left.octets.now - length rest.now) →
     ValuesBefore by schema of input (record { name = input.name; offset = offset; octets = rest }) (shown ++ text)
@@ -51,7 +51,7 @@ row_more by schema of input left shown text value rest offset before front said 
 
 -- a value takes an octet at least
 pub rest_shorter : {V : Type 0} (G : List ℕ → V → Type 0) (octets rest : List ℕ) (v : V) → (G [] v → ⊥) →
-    Front G octets v rest → length rest < length octets
+    HasPrefix G octets v rest → length rest < length octets
 rest_shorter G octets rest v some front =
     let e : length octets ≡ length front.word + length rest = ap length front.is ∙ length-append front.word rest in
     let has : (w : List ℕ) → G w v → 0 < length w = λ w fits. has_one w fits in

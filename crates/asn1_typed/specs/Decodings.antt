@@ -6,7 +6,7 @@ use Rattle.asn1_schema.specs.declared.refusal.Refusal.{Refusal}
 use Rattle.asn1_schema.specs.Reading.{IsWordOf}
 use Rattle.asn1_schema.specs.Values.{Value}
 use Rattle.x690.specs.Joined.{IsConcatenation, NoPrefix}
-use Rattle.asn1_headers.specs.Answers.{Front}
+use Rattle.asn1_headers.specs.Answers.{HasPrefix}
 use Rattle.asn1_engine.specs.Trees.{sum_within}
 use Rattle.asn1_json.specs.Shown.{layout, of_schema}
 use Rattle.asn1_json.specs.Tokens.{tokens_of}
@@ -24,8 +24,9 @@ abbrev pub value_text : Schema → Bool → ℕ → Value → List ℕ
 value_text schema pretty of value = layout pretty (tokens_of (of_schema schema) (Some of) value) ++ codes "\n"
 
 -- the line of some refusal, and of the element at its octet
-abbrev pub IsRefused : Schema → Input → List ℕ → Type 0
-IsRefused schema input text = (refusal : Refusal) × IsToldRefusal schema.nodes.items schema.names.items input refusal text
+abbrev pub IsRefusedDecoding : Schema → Input → List ℕ → Type 0
+IsRefusedDecoding schema input text = (refusal : Refusal) ×
+    IsToldRefusal schema.nodes.items schema.names.items input refusal text
 
 -- the octets are one value whole, and this is its text; or they are none, and this is told of a refusal
 abbrev pub IsDecoded : Decoding → Schema → ℕ → Input → Decoded → Type 0
@@ -33,15 +34,15 @@ IsDecoded by schema of input (answers.Value text) = (value : Value) ×
     IsWordOf by.coding schema.nodes.items 64 of input.octets.now value ×
     (text.items ≡ value_text schema by.pretty of value)
 IsDecoded by schema of input (answers.Refused line) =
-    IsNoValue by.coding schema.nodes.items of input.octets.now × IsRefused schema input line.items
+    IsNoValue by.coding schema.nodes.items of input.octets.now × IsRefusedDecoding schema input line.items
 
 -- a value stands at the front, and this is its text; or none does, and this is told of a refusal
 abbrev pub DecodesNext : Decoding → Schema → ℕ → Input → NextLine → Type 0
 DecodesNext by schema of input (front.Value text rest) = (value : Value) ×
-    Front (IsWordOf by.coding schema.nodes.items 64 of) input.octets.now value rest.now ×
+    HasPrefix (IsWordOf by.coding schema.nodes.items 64 of) input.octets.now value rest.now ×
     (text.items ≡ value_text schema by.pretty of value)
 DecodesNext by schema of input (front.Refused line) =
-    NoPrefix (IsWordOf by.coding schema.nodes.items 64 of) input.octets.now × IsRefused schema input line.items
+    NoPrefix (IsWordOf by.coding schema.nodes.items 64 of) input.octets.now × IsRefusedDecoding schema input line.items
 
 -- the texts of values, in their order
 abbrev pub value_texts : Schema → Bool → ℕ → List Value → List ℕ
@@ -51,7 +52,7 @@ value_texts schema pretty of values = flat_map (λ value. value_text schema pret
 abbrev pub EndsRow : Decoding → Schema → ℕ → Input → Option (Vec ℕ Global) → Type 0
 EndsRow by schema of left None = left.octets.now ≡ []
 EndsRow by schema of left (Some line) =
-    NoPrefix (IsWordOf by.coding schema.nodes.items 64 of) left.octets.now × IsRefused schema left line.items
+    NoPrefix (IsWordOf by.coding schema.nodes.items 64 of) left.octets.now × IsRefusedDecoding schema left line.items
 
 -- Values follow one another from the front of the input up to what is left, and these are their texts.
 pub record ValuesBefore (by : Decoding) (schema : Schema) (of : ℕ) (input left : Input) (shown : List ℕ) : Type 0 where

@@ -13,7 +13,7 @@ use Rattle.asn1_typed.specs.declared.input.Input.{Input}
 
 -- The text is a document of JSON in UTF-8 that denotes a value of the type, and the octets are its strict encoding, of which the
 -- elements nest 64 deep at most.
-pub record Encodes (schema : Schema) (of : ℕ) (text octets : List ℕ) : Type 0 where
+pub record EncodesJson (schema : Schema) (of : ℕ) (text octets : List ℕ) : Type 0 where
   pub json : Json
   pub value : Value
   pub utf8 : IsUtf8 text
@@ -22,11 +22,11 @@ pub record Encodes (schema : Schema) (of : ℕ) (text octets : List ℕ) : Type 
   pub word : Word strict schema.nodes.items 64 of octets value
 
 -- octets are the strict encoding of a value, if they are answered
-abbrev pub IsWritten : Schema → ℕ → Value → Encoded → Type 0
-IsWritten schema of value (answers.Value octets) = Word strict schema.nodes.items 64 of octets.items value
-IsWritten schema of value (answers.Refused line) = Unit {0}
+abbrev pub IsEncodedAs : Schema → ℕ → Value → Encoded → Type 0
+IsEncodedAs schema of value (answers.Value octets) = Word strict schema.nodes.items 64 of octets.items value
+IsEncodedAs schema of value (answers.Refused line) = Unit {0}
 
 -- and that of a value which the text denotes
 abbrev pub IsEncoded : Schema → ℕ → Input → Encoded → Type 0
-IsEncoded schema of input (answers.Value octets) = Encodes schema of input.octets.now octets.items
+IsEncoded schema of input (answers.Value octets) = EncodesJson schema of input.octets.now octets.items
 IsEncoded schema of input (answers.Refused line) = Unit {0}

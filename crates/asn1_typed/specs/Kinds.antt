@@ -81,9 +81,9 @@ parts_text true parts = part_names_text parts
 parts_text false parts = []
 
 -- the name of a type, empty where it has none
-abbrev pub name_in : Option TypeNames → List ℕ
-name_in None = []
-name_in (Some own) = own.name.now
+abbrev pub own_type_name : Option TypeNames → List ℕ
+own_type_name None = []
+own_type_name (Some own) = own.name.now
 
 -- the names of its parts
 abbrev pub labels_in : Option TypeNames → List PartName
@@ -99,22 +99,22 @@ inner_text named plain (kinds.Within of lower upper) = plain of
 inner_text named plain _ = []
 
 -- the bounds of a kind, and the names of its parts
-abbrev pub end_text : List PartName → Kind → List ℕ
-end_text labels kind = bounds_text kind ++ parts_text (has_parts kind) labels
+abbrev pub bounds_and_parts_text : List PartName → Kind → List ℕ
+bounds_and_parts_text labels kind = bounds_text kind ++ parts_text (has_parts kind) labels
 
 -- a kind, where the types that it leads to have these names and kinds
 abbrev pub kind_text : (named plain : ℕ → List ℕ) → List PartName → Option Node → List ℕ
 kind_text named plain labels None = codes "no type"
 kind_text named plain labels (Some node) =
-    kind_word node.kind ++ inner_text named plain node.kind ++ end_text labels node.kind
+    kind_word node.kind ++ inner_text named plain node.kind ++ bounds_and_parts_text labels node.kind
 
 -- The kind of the type at a place, by so many types that it leads to. A member has its name, or else its kind.
 unfoldable pub type_text : ℕ → List Node → List TypeNames → ℕ → List ℕ
 type_text zero table names of = codes ".."
 type_text (suc depth) table names of =
-    kind_text (λ inner. text_or (name_in (slice_get names inner)) (type_text depth table names inner))
+    kind_text (λ inner. text_or (own_type_name (slice_get names inner)) (type_text depth table names inner))
     (type_text depth table names) (labels_in (slice_get names of)) (slice_get table of)
 
 -- its name, or else its kind
 abbrev pub named_text : ℕ → List Node → List TypeNames → ℕ → List ℕ
-named_text depth table names of = text_or (name_in (slice_get names of)) (type_text depth table names of)
+named_text depth table names of = text_or (own_type_name (slice_get names of)) (type_text depth table names of)

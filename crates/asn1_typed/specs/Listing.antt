@@ -51,7 +51,7 @@ IsListing sources table names types notes text = (verdict : List ℕ) × IsSound
     (text ≡ type_lines table names types ++ note_lines sources notes ++ verdict)
 
 -- the line of a mistake; or the lines of a table of types
-abbrev pub IsAnswer : List Source → Finding → List ℕ → Type 0
-IsAnswer sources finding text = ((finding ≡ Refused) × (place : Place) × IsMistakeLine sources place text) ⊎
+abbrev pub IsListingOrMistake : List Source → Finding → List ℕ → Type 0
+IsListingOrMistake sources finding text = ((finding ≡ Refused) × (place : Place) × IsMistakeLine sources place text) ⊎
     ((table : List Node) × (names : List TypeNames) × (types : List ModuleType) × (notes : List Note) ×
     TellsSound table finding × IsListing sources table names types notes text)

@@ -23,15 +23,15 @@ abbrev pub place_text : List Source → Place → List ℕ
 place_text sources place = place_in (slice_get sources place.text) place.octet
 
 -- what is left out of a table
-abbrev pub left_out_text : LeftOut → List ℕ
-left_out_text left_out.Constraint = codes "a constraint is not judged"
-left_out_text left_out.Open = codes "any element is read"
-left_out_text left_out.Default = codes "a default is not read, and the component may be left out"
-left_out_text left_out.Middle = codes "no unknown elements are read before these components"
+abbrev pub table_left_out_text : LeftOut → List ℕ
+table_left_out_text left_out.Constraint = codes "a constraint is not judged"
+table_left_out_text left_out.Open = codes "any element is read"
+table_left_out_text left_out.Default = codes "a default is not read, and the component may be left out"
+table_left_out_text left_out.Middle = codes "no unknown elements are read before these components"
 
 -- the line of a note
 abbrev pub note_text : List Source → Note → List ℕ
-note_text sources note = place_text sources note.place ++ codes ": " ++ left_out_text note.what ++ codes "\n"
+note_text sources note = place_text sources note.place ++ codes ": " ++ table_left_out_text note.what ++ codes "\n"
 
 -- the line of a mistake, whatever the words for what is wrong are
 abbrev pub IsMistakeLine : List Source → Place → List ℕ → Type 0

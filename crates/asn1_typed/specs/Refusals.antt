@@ -30,15 +30,15 @@ abbrev pub octet_text : Input → ℕ → List ℕ
 octet_text input octet = input.name.now ++ codes ": octet " ++ number_text (sum_within input.offset octet)
 
 -- the line of a refusal: the name of the type, or else its kind; and whatever the names of the parts are
-abbrev pub IsRefusalLine : List Node → List TypeNames → Input → Refusal → List ℕ → Type 0
-IsRefusalLine table names input refusal text = (path : List ℕ) × (text ≡ octet_text input refusal.octet ++ path ++
+abbrev pub IsNamedRefusalLine : List Node → List TypeNames → Input → Refusal → List ℕ → Type 0
+IsNamedRefusalLine table names input refusal text = (path : List ℕ) × (text ≡ octet_text input refusal.octet ++ path ++
     codes " (" ++ named_text 16 table names refusal.of ++ codes "): " ++ reason_text refusal.reason ++ codes "\n")
 
 -- The line of a refusal, and behind it the line of the tree for the element that begins at its octet; nothing where none
 -- does.
 pub record IsToldRefusal (table : List Node) (names : List TypeNames) (input : Input) (refusal : Refusal) (text : List ℕ) : Type 0 where
   pub line : List ℕ
-  pub is_line : IsRefusalLine table names input refusal line
+  pub is_line : IsNamedRefusalLine table names input refusal line
   pub element : List ℕ
   pub is_element : IsFirstLine 64 (sum_within input.offset refusal.octet) (drop refusal.octet input.octets.now) element
   pub is : text ≡ line ++ element

@@ -8,13 +8,13 @@ use Rattle.asn1_typed.specs.declared.sought.Sought.TheVariants as answers
 use Rattle.asn1_typed.specs.declared.sought.TypeName.{TypeName}
 
 -- a type is of the module that is named, if one is
-abbrev pub is_within : Option (Bor (List ℕ)) → ModuleType → Bool
-is_within None named = true
-is_within (Some asked) named = bytes_eq asked.now named.module.now
+abbrev pub is_of_module : Option (Bor (List ℕ)) → ModuleType → Bool
+is_of_module None named = true
+is_of_module (Some asked) named = bytes_eq asked.now named.module.now
 
 -- a type has a name
 abbrev pub bears : TypeName → ModuleType → Bool
-bears name named = bytes_eq named.name.now name.name.now && is_within name.module named
+bears name named = bytes_eq named.name.now name.name.now && is_of_module name.module named
 
 -- one more type has the name
 abbrev pub and_at : Sought → ℕ → Sought

@@ -2,7 +2,7 @@
 use Rattle.std.specs.Prelude.{ℕ, ◌≡◌, ◌≤◌, ◌⊎◌, List, length, ◌++◌, codes}
 use Rattle.asn1_engine.specs.declared.error.Finding.{Finding}
 use Rattle.asn1_engine.specs.declared.error.Finding.TheVariants.{Holds, Refused}
-use Rattle.asn1_schema.specs.Differing.{HasNone, HasOther, IsNotStrict}
+use Rattle.asn1_schema.specs.Differing.{HasNoEncoding, HasOther, IsNotStrict}
 use Rattle.asn1_schema.specs.Grammar.{Word}
 use Rattle.asn1_schema.specs.Rules.{der, strict}
 use Rattle.asn1_schema.specs.Tape.{Kept, marks, tape_of, value_of}
@@ -14,7 +14,7 @@ use Rattle.asn1_schema.specs.declared.tape.Item.{Item}
 use Rattle.asn1_words.specs.Words.{number_text}
 use Rattle.asn1_engine.specs.Trees.{sum_within}
 use Rattle.asn1_typed.specs.Kinds.{named_text}
-use Rattle.asn1_typed.specs.Refusals.{IsRefusalLine, octet_text}
+use Rattle.asn1_typed.specs.Refusals.{IsNamedRefusalLine, octet_text}
 use Rattle.asn1_typed.specs.declared.input.Input.{Input}
 
 -- the octets are the strict encoding of a value, or of none
@@ -22,8 +22,8 @@ abbrev pub FindsStrict : List Node → ℕ → List ℕ → Finding → Type 0
 FindsStrict table of octets Holds = (value : Value) × Word strict table 64 of octets value
 FindsStrict table of octets Refused = IsNotStrict table 64 of octets
 
-abbrev pub strict_text : Schema → ℕ → Input → List ℕ
-strict_text schema of input = input.name.now ++ codes ": strict DER of " ++
+abbrev pub strict_value_text : Schema → ℕ → Input → List ℕ
+strict_value_text schema of input = input.name.now ++ codes ": strict DER of " ++
     named_text 16 schema.nodes.items schema.names.items of ++ codes "\n"
 
 -- the value of the tape has a strict encoding
@@ -62,16 +62,16 @@ TellsDifference schema of input line = (octet : ℕ) × IsDifferenceLine schema 
 -- the line of a value by DER that has no strict encoding
 abbrev pub TellsNone : Schema → ℕ → Input → List ℕ → Type 0
 TellsNone schema of input line = IsNoEncodingLine schema of input line ×
-    IsByDer schema.nodes.items of input.octets.now (HasNone schema.nodes.items 64 of)
+    IsByDer schema.nodes.items of input.octets.now (HasNoEncoding schema.nodes.items 64 of)
 
 -- the octets are of no value by DER, and this is the line of a refusal
 abbrev pub TellsRefusal : Schema → ℕ → Input → List ℕ → Type 0
 TellsRefusal schema of input line =
-    ((refusal : Refusal) × IsRefusalLine schema.nodes.items schema.names.items input refusal line) ×
+    ((refusal : Refusal) × IsNamedRefusalLine schema.nodes.items schema.names.items input refusal line) ×
     ((value : Value) → Word der schema.nodes.items 64 of input.octets.now value → ⊥)
 
 -- the line of a verdict
 abbrev pub IsVerdictLine : Schema → ℕ → Input → Finding → List ℕ → Type 0
-IsVerdictLine schema of input Holds line = line ≡ strict_text schema of input
+IsVerdictLine schema of input Holds line = line ≡ strict_value_text schema of input
 IsVerdictLine schema of input Refused line = TellsRefusal schema of input line ⊎
     TellsDifference schema of input line ⊎ TellsNone schema of input line

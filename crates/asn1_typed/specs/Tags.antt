@@ -6,18 +6,18 @@ use Rattle.asn1_schema.specs.declared.schema.Tags.TheVariants as tags
 use Rattle.asn1_words.specs.Words.{number_text}
 
 -- the word of a class; a context-specific tag has none (X.680 31.2)
-abbrev pub class_text : ℕ → List ℕ
-class_text class =
+abbrev pub class_prefix : ℕ → List ℕ
+class_prefix class =
     if nat_eq class 0 then codes "UNIVERSAL "
     else if nat_eq class 1 then codes "APPLICATION "
     else if nat_eq class 2 then [] else codes "PRIVATE "
 
-abbrev pub tag_text : TypeTag → List ℕ
-tag_text tag = codes "[" ++ class_text tag.class ++ number_text tag.number ++ codes "]"
+abbrev pub type_tag_text : TypeTag → List ℕ
+type_tag_text tag = codes "[" ++ class_prefix tag.class ++ number_text tag.number ++ codes "]"
 
 -- tags, each behind a space
 abbrev pub listed_text : List TypeTag → List ℕ
-listed_text listed = flat_map (λ tag. codes " " ++ tag_text tag) listed
+listed_text listed = flat_map (λ tag. codes " " ++ type_tag_text tag) listed
 
 -- the tags of the elements of a type
 abbrev pub tags_text : Tags → List ℕ

@@ -4,7 +4,7 @@ ghost use Rattle.asn1_schema.specs.Owned.{owned_marks};
 ghost use Rattle.asn1_schema.specs.Sound.{is_sound};
 ghost use Rattle.asn1_schema.specs.Tape.{Kept, tape_of, value_of};
 ghost use Rattle.asn1_schema.specs.Values.{Value as SpecValue};
-ghost use Rattle.asn1_typed.specs.Encodings.{IsEncoded, IsWritten};
+ghost use Rattle.asn1_typed.specs.Encodings.{IsEncoded, IsEncodedAs};
 
 use crate::input::Input;
 use crate::kinds::{self, push_named};
@@ -67,7 +67,7 @@ fn refused(
     input: Input<'_>,
     refusal: &JsonRefusal,
 ) -> Result<Encoded, RunError>
-    ensures written { (of : ℕ) (value : SpecValue) → IfOk result (IsWritten schema.now of value) }
+    ensures written { (of : ℕ) (value : SpecValue) → IfOk result (IsEncodedAs schema.now of value) }
     ensures encoded { (of : ℕ) → IfOk result (IsEncoded schema.now of input.entry) }
 {
     let mut line = Vec::new(alloc);
@@ -85,7 +85,7 @@ fn written(
 ) -> Result<Encoded, RunError>
     requires { is_sound schema.now.nodes.items ≡ true }
     ensures { (kept : Kept) → owned_marks made.now ≡ tape_of kept →
-        IfOk result (IsWritten schema.now of (value_of kept)) }
+        IfOk result (IsEncodedAs schema.now of (value_of kept)) }
 {
     tapes_begin_with_one_value();
     let tape = made.lend(alloc)?;

@@ -1,8 +1,10 @@
 //! Kinds of types in the words of X.680.
 ghost use Rattle.std.specs.Prelude.{◌≡◌, ◌++◌, slice_get, OnOk};
 ghost use Rattle.asn1_words.specs.Words.{integer_text};
-ghost use Rattle.asn1_typed.specs.Kinds.{bound_text, bounds_text, end_text, has_parts, inner_text, kind_word};
-ghost use Rattle.asn1_typed.specs.Kinds.{labels_in, name_in, named_text, part_names_text, text_word, time_word, type_text};
+ghost use Rattle.asn1_typed.specs.Kinds.{bound_text, bounds_text, bounds_and_parts_text, has_parts, inner_text};
+ghost use Rattle.asn1_typed.specs.Kinds.{kind_word};
+ghost use Rattle.asn1_typed.specs.Kinds.{labels_in, own_type_name, named_text, part_names_text, text_word, time_word};
+ghost use Rattle.asn1_typed.specs.Kinds.{type_text};
 
 use asn1_schema::build::Schema;
 use asn1_schema::names::{PartName, TypeNames};
@@ -134,7 +136,7 @@ fn push_parts(text: &mut Vec<u8>, parts: &[PartName<'_>]) -> Result<(), AllocErr
 
 /// The name of the type at a place, empty where it has none.
 fn name_at<'n>(names: &[TypeNames<'n>], of: usize) -> &'n str
-    ensures { result.now ≡ name_in (slice_get names.now of) }
+    ensures { result.now ≡ own_type_name (slice_get names.now of) }
 {
     match names.get(of) {
         None => "",
@@ -161,7 +163,8 @@ fn push_end(
     kind: &Kind,
 ) -> Result<(), AllocError>
     ensures { OnOk result (text.new.items ≡
-        text.old.items ++ end_text (labels_in (slice_get schema.now.names.items of)) kind.now) }
+        text.old.items ++ bounds_and_parts_text (labels_in (slice_get schema.now.names.items of))
+        kind.now) }
 {
     push_bounds(text, kind)?;
     if has_parts(kind) {

@@ -1,7 +1,7 @@
 //! The types of modules, a line each, and whether their table is sound.
 ghost use Rattle.std.specs.Prelude.{◌≡◌, ◌++◌, List, ℕ, slice_get, IfOk, OnOk};
 ghost use Rattle.std.specs.Io.KnownBytes.{Appends};
-ghost use Rattle.asn1_typed.specs.Listing.{IsAnswer, IsListing, IsSoundLine, TellsSound};
+ghost use Rattle.asn1_typed.specs.Listing.{IsListingOrMistake, IsListing, IsSoundLine, TellsSound};
 ghost use Rattle.asn1_typed.specs.Listing.{node_tags_text, note_lines, type_line, type_lines, unsound_text};
 ghost use Rattle.asn1_typed.specs.Places.{IsMistakeLine};
 
@@ -169,7 +169,8 @@ pub fn types<W: Write>(
     sources: &[Source<'_>],
     out: &mut W,
 ) -> Result<Finding, RunError>
-    ensures { IfOk result (λ finding. (shown : List ℕ) × IsAnswer sources.now finding shown ×
+    ensures { IfOk result (λ finding. (shown : List ℕ) ×
+        IsListingOrMistake sources.now finding shown ×
         Appends (W.contents out.old) (W.contents out.new) shown) }
 {
     let texts = texts_of(alloc, sources)?;

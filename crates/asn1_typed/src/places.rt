@@ -1,6 +1,6 @@
 //! Places in texts, and what is told of them.
 ghost use Rattle.std.specs.Prelude.{◌≡◌, ◌++◌, List, ℕ, OnOk};
-ghost use Rattle.asn1_typed.specs.Places.{IsMistakeLine, left_out_text, note_text, place_text, position_text};
+ghost use Rattle.asn1_typed.specs.Places.{IsMistakeLine, table_left_out_text, note_text, place_text, position_text};
 
 use crate::source::Source;
 use asn1_module::mistake::{Mistake, Place, position};
@@ -40,7 +40,7 @@ pub fn push_place(
 
 /// What is left out of a table, in words.
 fn left_out(what: LeftOut) -> &'static str
-    ensures { result.now ≡ left_out_text what }
+    ensures { result.now ≡ table_left_out_text what }
 {
     match what {
         LeftOut::Constraint => "a constraint is not judged",

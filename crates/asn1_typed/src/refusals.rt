@@ -2,7 +2,7 @@
 ghost use Rattle.std.specs.Prelude.{◌≡◌, ◌++◌, List, ℕ, OnOk};
 ghost use Rattle.asn1_engine.specs.Trees.{sum_within};
 ghost use Rattle.asn1_words.specs.Words.{number_text};
-ghost use Rattle.asn1_typed.specs.Refusals.{IsRefusalLine, IsToldRefusal, octet_text, reason_text};
+ghost use Rattle.asn1_typed.specs.Refusals.{IsNamedRefusalLine, IsToldRefusal, octet_text, reason_text};
 
 use crate::input::Input;
 use crate::kinds::{MOST_DEPTH, push_named};
@@ -86,7 +86,8 @@ pub fn push_refusal(
     refusal: &Refusal,
 ) -> Result<(), AllocError>
     ensures { OnOk result ((line : List ℕ) ×
-        IsRefusalLine schema.now.nodes.items schema.now.names.items input.entry refusal.now line ×
+        IsNamedRefusalLine schema.now.nodes.items schema.now.names.items input.entry refusal.now
+        line ×
         (text.new.items ≡ text.old.items ++ line)) }
 {
     push_octet(alloc, text, input, schema, of, refusal)?;

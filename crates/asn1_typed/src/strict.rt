@@ -2,7 +2,7 @@
 ghost use Rattle.std.specs.Prelude.{ℕ, ◌≡◌, ◌++◌, List, true, codes, IfOk, OnOk};
 ghost use Rattle.asn1_schema.specs.Sound.{is_sound};
 ghost use Rattle.asn1_typed.specs.Strict.{FindsStrict, HasEncoding, IsDifferenceLine, IsNoEncodingLine};
-ghost use Rattle.asn1_typed.specs.Strict.{IsVerdictLine, strict_text};
+ghost use Rattle.asn1_typed.specs.Strict.{IsVerdictLine, strict_value_text};
 
 use crate::defaults::default_at;
 use crate::input::Input;
@@ -26,7 +26,8 @@ fn push_strict(
     schema: &Schema<'_>,
     of: usize,
 ) -> Result<(), AllocError>
-    ensures { OnOk result (text.new.items ≡ text.old.items ++ strict_text schema.now of input.entry) }
+    ensures { OnOk result (text.new.items ≡ text.old.items ++
+        strict_value_text schema.now of input.entry) }
 {
     push_str(text, input.name)?;
     push_str(text, ": strict DER of ")?;

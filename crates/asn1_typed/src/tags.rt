@@ -1,6 +1,6 @@
 //! Tags of types in the words of X.680 (31.2).
 ghost use Rattle.std.specs.Prelude.{◌≡◌, ◌++◌, OnOk};
-ghost use Rattle.asn1_typed.specs.Tags.{class_text, listed_text, tag_text, tags_text};
+ghost use Rattle.asn1_typed.specs.Tags.{class_prefix, listed_text, type_tag_text, tags_text};
 
 use asn1_schema::schema::{Tags, TypeTag};
 use asn1_words::words::{push_number, push_str};
@@ -8,7 +8,7 @@ use std::alloc::AllocError;
 
 /// The word of a class.
 fn class_word(class: u8) -> &'static str
-    ensures { result.now ≡ class_text class }
+    ensures { result.now ≡ class_prefix class }
 {
     match class {
         0 => "UNIVERSAL ",
@@ -20,7 +20,7 @@ fn class_word(class: u8) -> &'static str
 
 /// Appends a tag, as `[UNIVERSAL 16]` or `[0]`.
 pub fn push_tag(text: &mut Vec<u8>, tag: TypeTag) -> Result<(), AllocError>
-    ensures { OnOk result (text.new.items ≡ text.old.items ++ tag_text tag) }
+    ensures { OnOk result (text.new.items ≡ text.old.items ++ type_tag_text tag) }
 {
     push_str(text, "[")?;
     push_str(text, class_word(tag.class))?;

@@ -6,20 +6,21 @@ use Rattle.asn1_walk.specs.declared.state.Frame.{Frame}
 use Rattle.asn1_walk.specs.declared.state.Walk.{Walk}
 use Rattle.asn1_walk.specs.declared.walk.Step.{Step}
 use Rattle.asn1_walk.specs.declared.walk.Step.TheVariants.{Line as an_element, Closed, End, Refused}
-use Rattle.asn1_walk.specs.Rooms.{behind}
+use Rattle.asn1_walk.specs.Rooms.{octets_behind}
 use Rattle.asn1_walk.specs.Rows.{Outcome, ended}
-use Rattle.asn1_walk.specs.Walks.{Finds, Moves, Goes, steps_left}
+use Rattle.asn1_walk.specs.Walks.{Finds, Moves, AreLinesToCome, steps_left}
 use Rattle.asn1_walk.proofs.Coming.{all_end, fault_next, leaf_next}
 use Rattle.asn1_walk.proofs.Steps.{closed, closed_fewer, header_passed, opened, opened_fewer}
 
 -- the same is to come where a walk stands at the same place
 goes_alike : (frames others : List Frame) (offset place : ℕ) (view octets : List ℕ) → frames ≡ others →
-    offset ≡ place → view ≡ octets → (lines : List Line) (outcome : Outcome) → Goes frames offset view lines outcome →
-    Goes others place octets lines outcome
+    offset ≡ place → view ≡ octets → (lines : List Line) (outcome : Outcome) →
+    AreLinesToCome frames offset view lines outcome →
+    AreLinesToCome others place octets lines outcome
 goes_alike frames others offset place view octets f o v lines outcome g =
-    subst (λ (fs : List Frame). Goes fs place octets lines outcome) f
-    (subst (λ (n : ℕ). Goes frames n octets lines outcome) o
-    (subst (λ (w : List ℕ). Goes frames offset w lines outcome) v g))
+    subst (λ (fs : List Frame). AreLinesToCome fs place octets lines outcome) f
+    (subst (λ (n : ℕ). AreLinesToCome frames n octets lines outcome) o
+    (subst (λ (w : List ℕ). AreLinesToCome frames offset w lines outcome) v g))
 
 pub moves : (step : Step) (old new : Walk) → Finds step old new → Moves step old new
 moves (an_element line) old new (inl p) = (
@@ -27,7 +28,7 @@ moves (an_element line) old new (inl p) = (
     arith,
     header_passed _ _ old.offset old.view.now line _ p.0.0,
     length-append line.content.now new.view.now,
-    ap (λ (fs : List Frame). behind (reverse fs)) p.2,
+    ap (λ (fs : List Frame). octets_behind (reverse fs)) p.2,
     ap length p.2,
   ),
   λ lines outcome g. leaf_next (reverse old.frames.items) old.offset old.view.now line new.view.now _ p.0.0 p.0.1
@@ -36,7 +37,7 @@ moves (an_element line) old new (inl p) = (
 )
 moves (an_element line) old new (inr e) =
     let can = e.1 in (
-      subst (λ (v : List ℕ). suc (length v + behind (reverse new.frames.items) + length new.frames.items) ≤ steps_left old)
+      subst (λ (v : List ℕ). suc (length v + octets_behind (reverse new.frames.items) + length new.frames.items) ≤ steps_left old)
           (sym e.2)
           (opened_fewer old.frames.items new.frames.items e.0 old.offset old.view.now line can.0 e.4 can.1 can.3),
       λ lines outcome g. opened old.frames.items new.frames.items e.0 old.offset old.view.now line can.0 e.4 can.1 can.2

@@ -11,7 +11,7 @@ use Rattle.x690.specs.Laws.Faults.{header_or_fault}
 use Rattle.asn1_headers.specs.Length.{form_of}
 use Rattle.asn1_walk.specs.declared.line.Line.{Line}
 use Rattle.asn1_walk.specs.Rows.{Row, Outcome, ended, refused, at_end, at_fault, leaf, node, broken, AtEnd, NoElement}
-use Rattle.asn1_walk.specs.Rows.{Tells, Opens, end_width, identifier_of_line}
+use Rattle.asn1_walk.specs.Rows.{BeginsWithLine, Opens, end_width, identifier_of_line}
 
 -- both end at one place, with the same octets behind it, or both are refused
 abbrev Agree : Outcome → Outcome → Type 0
@@ -50,7 +50,8 @@ record Same (one other : Line) (after rest : List ℕ) : Type 0 where
   pub after_is : after ≡ rest
 
 same_line : (marked : Bool) (depth offset : ℕ) (octets : List ℕ) (one other : Line) (after rest : List ℕ) →
-    Tells marked depth offset octets one after → Tells marked depth offset octets other rest → Same one other after rest
+    BeginsWithLine marked depth offset octets one after → BeginsWithLine marked depth offset octets other rest →
+    Same one other after rest
 same_line marked depth offset octets one other after rest s t =
     let u = header_unique ber_rule ber_rule s.header t.header after rest (identifier_of_line one) (identifier_of_line other)
     (form_of one.length) (form_of other.length) s.header_is t.header_is (sym s.is ∙ t.is) in
@@ -107,7 +108,7 @@ record LeafHere (marked : Bool) (depth offset : ℕ) (octets : List ℕ) (outcom
   pub line : Line
   pub rest : List ℕ
   pub lines : List Line
-  pub tells : Tells marked depth offset octets line (line.content.now ++ rest)
+  pub tells : BeginsWithLine marked depth offset octets line (line.content.now ++ rest)
   pub primitive : line.constructed ≡ false
   pub counted : form_of line.length ≡ definite (length line.content.now)
   pub row : Row marked depth (offset + line.header_len + length line.content.now) rest lines outcome
@@ -119,7 +120,7 @@ record NodeHere (marked : Bool) (depth offset : ℕ) (octets : List ℕ) (outcom
   pub tail : List ℕ
   pub inner : List Line
   pub inner_outcome : Outcome
-  pub tells : Tells marked depth offset octets line after
+  pub tells : BeginsWithLine marked depth offset octets line after
   pub constructed : line.constructed ≡ true
   pub opens : Opens (form_of line.length) after inner_marked line.content.now tail
   pub inner_row : Row inner_marked (suc depth) (offset + line.header_len) line.content.now inner inner_outcome
@@ -141,7 +142,7 @@ not_both at to left fault e = subst (Agree (ended at left)) e (refl, refl)
 -- what an element with contents to go into makes of a row, by how these come out
 node_here : (marked : Bool) (depth offset : ℕ) (octets : List ℕ) (outcome : Outcome) (line : Line) (after : List ℕ)
     (inner_marked : Bool) (tail : List ℕ) (inner : List Line) (inner_outcome : Outcome) →
-    Tells marked depth offset octets line after → line.constructed ≡ true →
+    BeginsWithLine marked depth offset octets line after → line.constructed ≡ true →
     Opens (form_of line.length) after inner_marked line.content.now tail →
     Row inner_marked (suc depth) (offset + line.header_len) line.content.now inner inner_outcome →
     ((at : ℕ) (left : List ℕ) → inner_outcome ≡ ended at left →
@@ -219,7 +220,7 @@ leaf_is_there line rest e = subst (λ (f : LengthForm). IsThere f (line.content.
 
 -- the row of a leaf goes on where that of the same leaf does
 same_rest : (marked : Bool) (depth offset : ℕ) (octets : List ℕ) (outcome : Outcome) (line : Line) (rest : List ℕ) →
-    Tells marked depth offset octets line (line.content.now ++ rest) →
+    BeginsWithLine marked depth offset octets line (line.content.now ++ rest) →
     form_of line.length ≡ definite (length line.content.now) → (l : LeafHere marked depth offset octets outcome) →
     Row marked depth (offset + line.header_len + length line.content.now) rest l.lines outcome
 same_rest marked depth offset octets outcome line rest tells counted l =
@@ -234,7 +235,7 @@ same_rest marked depth offset octets outcome line rest tells counted l =
 
 -- what is opened by the same header is the same
 node_open : (marked : Bool) (depth offset : ℕ) (octets : List ℕ) (outcome : Outcome) (line : Line) (after : List ℕ)
-    (inner_marked : Bool) (tail : List ℕ) → Tells marked depth offset octets line after →
+    (inner_marked : Bool) (tail : List ℕ) → BeginsWithLine marked depth offset octets line after →
     Opens (form_of line.length) after inner_marked line.content.now tail → (n : NodeHere marked depth offset octets outcome) →
     SameOpen inner_marked n.inner_marked line.content.now n.line.content.now tail n.tail
 node_open marked depth offset octets outcome line after inner_marked tail tells opens n =
@@ -244,7 +245,7 @@ node_open marked depth offset octets outcome line after inner_marked tail tells 
     (subst (λ (f : LengthForm). Opens f n.after n.inner_marked n.line.content.now n.tail) (sym s.form) n.opens))
 
 same_inner : (marked : Bool) (depth offset : ℕ) (octets : List ℕ) (outcome : Outcome) (line : Line) (after : List ℕ)
-    (inner_marked : Bool) (tail : List ℕ) → Tells marked depth offset octets line after →
+    (inner_marked : Bool) (tail : List ℕ) → BeginsWithLine marked depth offset octets line after →
     Opens (form_of line.length) after inner_marked line.content.now tail → (n : NodeHere marked depth offset octets outcome) →
     Row inner_marked (suc depth) (offset + line.header_len) line.content.now n.inner n.inner_outcome
 same_inner marked depth offset octets outcome line after inner_marked tail tells opens n =

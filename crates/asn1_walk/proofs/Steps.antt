@@ -10,9 +10,9 @@ use Rattle.asn1_headers.specs.Length.{form_of}
 use Rattle.asn1_walk.specs.declared.line.Line.{Line}
 use Rattle.asn1_walk.specs.declared.state.Frame.{Frame}
 use Rattle.asn1_walk.specs.declared.state.Frame.TheVariants.{Counted, Marked}
-use Rattle.asn1_walk.specs.Rooms.{behind, is_marked, tail_of}
-use Rattle.asn1_walk.specs.Rows.{Row, Outcome, ended, refused, at_end, at_fault, leaf, node, broken, AtEnd, Tells, Opens, end_width, identifier_of_line}
-use Rattle.asn1_walk.specs.Walks.{Goes, marked_of}
+use Rattle.asn1_walk.specs.Rooms.{octets_behind, is_marked, tail_of}
+use Rattle.asn1_walk.specs.Rows.{Row, Outcome, ended, refused, at_end, at_fault, leaf, node, broken, AtEnd, BeginsWithLine, Opens, end_width, identifier_of_line}
+use Rattle.asn1_walk.specs.Walks.{AreLinesToCome, marked_of}
 use Rattle.asn1_walk.proofs.Coming.{node_next, end_next}
 
 -- the last frame is the innermost
@@ -22,8 +22,8 @@ innermost before all frame e = ap reverse e ∙ reverse-append before (frame ∷
 
 -- what is told of an element is told with any contents
 pub with_content : (marked : Bool) (depth offset : ℕ) (octets : List ℕ) (line : Line) (after : List ℕ)
-    (content : Bor (List ℕ)) → Tells marked depth offset octets line after →
-    Tells marked depth offset octets (record line { content = content }) after
+    (content : Bor (List ℕ)) → BeginsWithLine marked depth offset octets line after →
+    BeginsWithLine marked depth offset octets (record line { content = content }) after
 with_content marked depth offset octets line after content t = record {
   not_end = t.not_end;
   header = t.header;
@@ -36,7 +36,7 @@ with_content marked depth offset octets line after content t = record {
 
 -- behind a header there are two octets less at least
 pub header_passed : (marked : Bool) (depth offset : ℕ) (octets : List ℕ) (line : Line) (after : List ℕ) →
-    Tells marked depth offset octets line after → length after + 2 ≤ length octets
+    BeginsWithLine marked depth offset octets line after → length after + 2 ≤ length octets
 header_passed marked depth offset octets line after t =
     omega (
       arith,
@@ -101,27 +101,29 @@ comes_out _ _ _ _ _ _ (broken marked depth offset octets line after inner_marked
 -- an element is opened
 pub opened : (frames more : List Frame) (frame : Frame) (offset : ℕ) (view : List ℕ) (line : Line)
     (after : List ℕ) → more ≡ frames ++ frame ∷ [] →
-    Tells (marked_of (reverse frames)) (length (reverse frames)) offset view line after → line.constructed ≡ true →
+    BeginsWithLine (marked_of (reverse frames)) (length (reverse frames)) offset view line after →
+    line.constructed ≡ true →
     Opens (form_of line.length) after (is_marked frame) line.content.now (tail_of frame) → (lines : List Line)
-    (outcome : Outcome) → Goes (reverse more) (offset + line.header_len) line.content.now lines outcome →
-    Goes (reverse frames) offset view (line ∷ lines) outcome
+    (outcome : Outcome) → AreLinesToCome (reverse more) (offset + line.header_len) line.content.now lines outcome →
+    AreLinesToCome (reverse frames) offset view (line ∷ lines) outcome
 opened frames more frame offset view line after e t constructed opens lines outcome g =
     node_next (reverse frames) frame offset view line after (offset + line.header_len) t constructed opens refl
-    lines outcome (subst (λ (fs : List Frame). Goes fs (offset + line.header_len) line.content.now lines outcome)
+    lines outcome (subst (λ (fs : List Frame). AreLinesToCome fs (offset + line.header_len) line.content.now lines
+    outcome)
     (innermost frames more frame e) g)
 
 -- fewer steps are left then
 pub opened_fewer : (frames more : List Frame) (frame : Frame) (offset : ℕ) (view : List ℕ) (line : Line)
     (after : List ℕ) → more ≡ frames ++ frame ∷ [] →
-    Tells (marked_of (reverse frames)) (length (reverse frames)) offset view line after →
+    BeginsWithLine (marked_of (reverse frames)) (length (reverse frames)) offset view line after →
     Opens (form_of line.length) after (is_marked frame) line.content.now (tail_of frame) →
-    suc (length line.content.now + behind (reverse more) + length more) ≤ length view + behind (reverse frames) + length frames
+    suc (length line.content.now + octets_behind (reverse more) + length more) ≤ length view + octets_behind (reverse frames) + length frames
 opened_fewer frames more frame offset view line after e t opens =
     omega (
       arith,
       header_passed _ _ offset view line after t,
       opened_length (form_of line.length) after (is_marked frame) line.content.now (tail_of frame) opens,
-      ap behind (innermost frames more frame e),
+      ap octets_behind (innermost frames more frame e),
       ap length e,
       length-append frames (frame ∷ []),
     )
@@ -135,23 +137,24 @@ closed_width Marked view left e = omega (arith, ap length e)
 pub closed : (frames fewer : List Frame) (frame : Frame) (offset next : ℕ) (view left looked : List ℕ) →
     frames ≡ fewer ++ frame ∷ [] → AtEnd (is_marked frame) view left → looked ≡ left ++ tail_of frame →
     next ≡ offset + end_width (is_marked frame) → (lines : List Line) (outcome : Outcome) →
-    Goes (reverse fewer) next looked lines outcome → Goes (reverse frames) offset view lines outcome
+    AreLinesToCome (reverse fewer) next looked lines outcome → AreLinesToCome (reverse frames) offset view lines outcome
 closed frames fewer frame offset next view left looked e end l n lines outcome g =
-    subst (λ (fs : List Frame). Goes fs offset view lines outcome) (sym (innermost fewer frames frame e))
+    subst (λ (fs : List Frame). AreLinesToCome fs offset view lines outcome) (sym (innermost fewer frames frame e))
     (end_next (reverse fewer) frame offset view left next end n lines outcome
-    (subst (λ (v : List ℕ). Goes (reverse fewer) next v lines outcome) l g))
+    (subst (λ (v : List ℕ). AreLinesToCome (reverse fewer) next v lines outcome) l g))
 
 -- fewer steps are left then
 pub closed_fewer : (frames fewer : List Frame) (frame : Frame) (view left looked : List ℕ) →
     frames ≡ fewer ++ frame ∷ [] → AtEnd (is_marked frame) view left → looked ≡ left ++ tail_of frame →
-    suc (length looked + behind (reverse fewer) + length fewer) ≤ length view + behind (reverse frames) + length frames
+    suc (length looked + octets_behind (reverse fewer) + length fewer) ≤ length view + octets_behind (reverse frames) +
+    length frames
 closed_fewer frames fewer frame view left looked e end l =
     omega (
       arith,
       ap length l,
       length-append left (tail_of frame),
       closed_width frame view left end,
-      ap behind (innermost fewer frames frame e),
+      ap octets_behind (innermost fewer frames frame e),
       ap length e,
       length-append fewer (frame ∷ []),
     )

@@ -31,14 +31,15 @@ pub data Outcome : Type 0 where
   refused : (offset : ℕ) → (fault : Fault) → Outcome
 
 -- The octets begin with the header that the line tells of, which is not the end of the row.
-pub record Tells (marked : Bool) (depth offset : ℕ) (octets : List ℕ) (line : Line) (after : List ℕ) : Type 0 where
-  pub not_end : (rest : List ℕ) → AtEnd marked octets rest → ⊥
-  pub header : List ℕ
-  pub header_is : IsHeader ber_rule header (identifier_of_line line) (form_of line.length)
-  pub is : octets ≡ header ++ after
-  pub depth_is : line.depth ≡ depth
-  pub offset_is : line.offset ≡ offset
-  pub header_len_is : line.header_len ≡ length header
+pub record BeginsWithLine (marked : Bool) (depth offset : ℕ) (octets : List ℕ) (line : Line) (after : List ℕ) : Type 0
+  where
+    pub not_end : (rest : List ℕ) → AtEnd marked octets rest → ⊥
+    pub header : List ℕ
+    pub header_is : IsHeader ber_rule header (identifier_of_line line) (form_of line.length)
+    pub is : octets ≡ header ++ after
+    pub depth_is : line.depth ≡ depth
+    pub offset_is : line.offset ≡ offset
+    pub header_len_is : line.header_len ≡ length header
 
 -- Where the contents of a header of this form are walked: how they end, their octets, and what stands behind these. In
 -- the indefinite form the octets are all that follows.
@@ -59,19 +60,20 @@ pub data Row : Bool → ℕ → ℕ → List ℕ → List Line → Outcome → T
       ((rest : List ℕ) → AtEnd marked octets rest → ⊥) → NoElement octets fault →
       Row marked depth offset octets [] (refused offset fault)
   leaf : (marked : Bool) (depth offset : ℕ) (octets : List ℕ) (line : Line) (rest : List ℕ)
-      (lines : List Line) (outcome : Outcome) → Tells marked depth offset octets line (line.content.now ++ rest) →
+      (lines : List Line) (outcome : Outcome) → BeginsWithLine marked depth offset octets line
+      (line.content.now ++ rest) →
       line.constructed ≡ false → form_of line.length ≡ definite (length line.content.now) →
       Row marked depth (offset + line.header_len + length line.content.now) rest lines outcome →
       Row marked depth offset octets (line ∷ lines) outcome
   node : (marked : Bool) (depth offset : ℕ) (octets : List ℕ) (line : Line) (after : List ℕ) (inner_marked : Bool)
       (tail : List ℕ) (inner : List Line) (at : ℕ) (left : List ℕ) (lines : List Line) (outcome : Outcome) →
-      Tells marked depth offset octets line after → line.constructed ≡ true →
+      BeginsWithLine marked depth offset octets line after → line.constructed ≡ true →
       Opens (form_of line.length) after inner_marked line.content.now tail →
       Row inner_marked (suc depth) (offset + line.header_len) line.content.now inner (ended at left) →
       Row marked depth at (left ++ tail) lines outcome → Row marked depth offset octets (line ∷ inner ++ lines) outcome
   broken : (marked : Bool) (depth offset : ℕ) (octets : List ℕ) (line : Line) (after : List ℕ) (inner_marked : Bool)
       (tail : List ℕ) (inner : List Line) (at : ℕ) (fault : Fault) →
-      Tells marked depth offset octets line after → line.constructed ≡ true →
+      BeginsWithLine marked depth offset octets line after → line.constructed ≡ true →
       Opens (form_of line.length) after inner_marked line.content.now tail →
       Row inner_marked (suc depth) (offset + line.header_len) line.content.now inner (refused at fault) →
       Row marked depth offset octets (line ∷ inner) (refused at fault)

@@ -15,14 +15,15 @@ use Rattle.asn1_walk.specs.declared.walk.Step.{Step}
 use Rattle.asn1_walk.specs.declared.walk.Step.TheVariants.{Line as an_element, Closed, End, Refused}
 use Rattle.asn1_walk.specs.declared.walk.Ending.{Ending}
 use Rattle.asn1_walk.specs.declared.walk.Ending.TheVariants.{Whole, Refused as Refused_at}
-use Rattle.asn1_walk.specs.Rooms.{behind, is_marked, tail_of}
-use Rattle.asn1_walk.specs.Rows.{Row, Outcome, ended, refused, Tells, Opens, AtEnd, NoElement, end_width}
+use Rattle.asn1_walk.specs.Rooms.{octets_behind, is_marked, tail_of}
+use Rattle.asn1_walk.specs.Rows.{Row, Outcome, ended, refused, BeginsWithLine, Opens, AtEnd, NoElement, end_width}
 use Rattle.asn1_headers.specs.Length.{form_of}
 
 -- so many octets and the rest, or how many are missing
-abbrev pub Splits : ℕ → List ℕ → Result (Bor (List ℕ) × Bor (List ℕ)) (Refusal Error) → Type 0
-Splits n octets (Ok x) = (length x.0.now ≡ n) × (octets ≡ x.0.now ++ x.1.now)
-Splits n octets (Err r) = (lacking : ℕ) × (1 ≤ lacking) × (length octets + lacking ≡ n) × (r ≡ truncated (Size lacking))
+abbrev pub SplitsAt : ℕ → List ℕ → Result (Bor (List ℕ) × Bor (List ℕ)) (Refusal Error) → Type 0
+SplitsAt n octets (Ok x) = (length x.0.now ≡ n) × (octets ≡ x.0.now ++ x.1.now)
+SplitsAt n octets (Err r) = (lacking : ℕ) × (1 ≤ lacking) × (length octets + lacking ≡ n) ×
+    (r ≡ truncated (Size lacking))
 
 -- how the innermost contents that are open end
 abbrev pub marked_of : List Frame → Bool
@@ -31,23 +32,23 @@ marked_of (frame ∷ frames) = is_marked frame
 
 -- The lines that are still to come, and how the walk comes out, where these contents are open (the innermost first).
 -- They are the lines of the innermost row, and behind its end those of the rows around it.
-unfoldable pub Goes : List Frame → ℕ → List ℕ → List Line → Outcome → Type 0
-Goes [] offset view lines outcome = Row false 0 offset view lines outcome
-Goes (frame ∷ frames) offset view lines outcome =
+unfoldable pub AreLinesToCome : List Frame → ℕ → List ℕ → List Line → Outcome → Type 0
+AreLinesToCome [] offset view lines outcome = Row false 0 offset view lines outcome
+AreLinesToCome (frame ∷ frames) offset view lines outcome =
     ((at : ℕ) × (fault : Fault) × (outcome ≡ refused at fault) ×
     Row (is_marked frame) (suc (length frames)) offset view lines (refused at fault)) ⊎
     ((inner others : List Line) × (at : ℕ) × (left : List ℕ) × (lines ≡ inner ++ others) ×
     Row (is_marked frame) (suc (length frames)) offset view inner (ended at left) ×
-    Goes frames at (left ++ tail_of frame) others outcome)
+    AreLinesToCome frames at (left ++ tail_of frame) others outcome)
 
 -- the same of a walk
 abbrev pub Left : Walk → List Line → Outcome → Type 0
-Left w lines outcome = Goes (reverse w.frames.items) w.offset w.view.now lines outcome
+Left w lines outcome = AreLinesToCome (reverse w.frames.items) w.offset w.view.now lines outcome
 
 -- the line tells of what comes next
 abbrev pub Comes : Walk → Line → List ℕ → Type 0
 Comes w line after =
-    Tells (marked_of (reverse w.frames.items)) (length (reverse w.frames.items)) w.offset w.view.now line after
+    BeginsWithLine (marked_of (reverse w.frames.items)) (length (reverse w.frames.items)) w.offset w.view.now line after
 
 -- the element that comes next has contents to go into, and this is kept of what stands behind them
 abbrev pub CanOpen : Walk → Line → Frame → Type 0
@@ -94,7 +95,7 @@ Finds (Refused r) old new = (fault : Fault) × ComesNone old fault × (r ≡ ber
 
 -- as many steps as a walk can still make, but for the last one
 abbrev pub steps_left : Walk → ℕ
-steps_left w = length w.view.now + behind (reverse w.frames.items) + length w.frames.items
+steps_left w = length w.view.now + octets_behind (reverse w.frames.items) + length w.frames.items
 
 -- What a step says: what comes then is what came, without its line; or nothing comes.
 abbrev pub Moves : Step → Walk → Walk → Type 0

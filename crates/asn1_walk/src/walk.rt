@@ -4,7 +4,7 @@ ghost use Rattle.x690.specs.Rules.{ber_rule};
 ghost use Rattle.x690.specs.Faults.{HeaderFault};
 ghost use Rattle.asn1_headers.specs.Header.Reading.{Refused, ber_refusal};
 ghost use Rattle.asn1_walk.specs.Rows.{AtEnd};
-ghost use Rattle.asn1_walk.specs.Walks.{Moves, Stays, Finds, Comes, CanOpen, CanPass, Splits, ComesOut, marked_of};
+ghost use Rattle.asn1_walk.specs.Walks.{Moves, Stays, Finds, Comes, CanOpen, CanPass, SplitsAt, ComesOut, marked_of};
 
 use crate::line::Line;
 use crate::state::{Frame, Walk};
@@ -37,7 +37,7 @@ pub enum Ending {
 
 /// So many octets at the front and the rest, or how many are missing.
 fn split(octets: &[u8], count: usize) -> Result<(&[u8], &[u8]), Err<Error>>
-    ensures { Splits count octets.now result }
+    ensures { SplitsAt count octets.now result }
 {
     if octets.len() < count {
         return Err(Err::Incomplete(Needed::Size(count - octets.len())));

@@ -3,7 +3,7 @@ ghost use Rattle.std.specs.Prelude.{◌≡◌, ◌≢◌, ◌≤◌, ◌<◌, �
 ghost use Rattle.x690.specs.Digits.{base_128_value};
 ghost use Rattle.x690.specs.Arcs.{pieces_of, subidentifiers, first_subidentifier, first_arc, second_arc};
 ghost use Rattle.asn1_words.specs.Words.{number_text};
-ghost use Rattle.asn1_words.specs.Numbers.{are_few, are_shown, arcs, arcs_text, is_whole, more_arcs_text};
+ghost use Rattle.asn1_words.specs.Numbers.{are_few, are_shown, arcs, dotted_arcs, is_whole, more_arcs_text};
 
 use crate::decimals::push_subidentifier;
 use crate::octets::behind;
@@ -89,7 +89,7 @@ fn push_more(text: &mut Vec<u8>, content: &[u8]) -> Result<(), AllocError>
 fn push_relative(text: &mut Vec<u8>, content: &[u8]) -> Result<(), AllocError>
     requires some { 0 < length content.now }
     requires few { are_few 40 (pieces_of content.now) ≡ true }
-    ensures { OnOk result (text.new.items ≡ text.old.items ++ arcs_text (arcs true content.now)) }
+    ensures { OnOk result (text.new.items ≡ text.old.items ++ dotted_arcs (arcs true content.now)) }
 {
     let len = first_piece_len(content);
     let (piece, others) = content.split_at(len);
@@ -102,7 +102,8 @@ fn push_relative(text: &mut Vec<u8>, content: &[u8]) -> Result<(), AllocError>
 fn push_absolute(text: &mut Vec<u8>, content: &[u8]) -> Result<(), AllocError>
     requires some { 0 < length content.now }
     requires few { are_few 9 (pieces_of content.now) ≡ true }
-    ensures { OnOk result (text.new.items ≡ text.old.items ++ arcs_text (arcs false content.now)) }
+    ensures { OnOk result (text.new.items ≡ text.old.items ++
+        dotted_arcs (arcs false content.now)) }
 {
     let (first, second, len) = split_subidentifier(content);
     push_number(text, first)?;
@@ -116,7 +117,7 @@ fn push_absolute(text: &mut Vec<u8>, content: &[u8]) -> Result<(), AllocError>
 pub fn push_arcs(text: &mut Vec<u8>, relative: bool, content: &[u8]) -> Result<(), AllocError>
     requires { are_shown relative content.now ≡ true }
     ensures { OnOk result (text.new.items ≡
-        text.old.items ++ arcs_text (arcs relative content.now)) }
+        text.old.items ++ dotted_arcs (arcs relative content.now)) }
 {
     if relative {
         push_relative(text, content)

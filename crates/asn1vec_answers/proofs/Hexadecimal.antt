@@ -7,7 +7,7 @@ use Rattle.std.proofs.lemmas.Bool.Decides.{nat_tests}
 use Rattle.std.proofs.lemmas.List.{take_more, take_more_set}
 use Rattle.hex.specs.Hex.{hex_digit_value}
 use Rattle.hex.proofs.HexLemmas.{IsDigits-lower_digits, IsDigits-upper_digits}
-use Rattle.asn1vec_answers.specs.Request.{IsDigit, IsHexadecimal, StandsFor}
+use Rattle.asn1vec_answers.specs.Request.{IsDigit, AreHexadecimalDigits, StandsFor}
 
 -- The table.
 
@@ -61,8 +61,9 @@ number_in table h d c (small, inr e) = ap (slice_index table) e
 -- Digits of octets.
 
 -- one more octet, behind the others
-one_more : (octets digits : List ℕ) (octet high low : ℕ) → IsHexadecimal octets digits → IsDigit (octet / 16) high →
-    IsDigit (octet % 16) low → IsHexadecimal (octets ++ octet ∷ []) (digits ++ high ∷ low ∷ [])
+one_more : (octets digits : List ℕ) (octet high low : ℕ) → AreHexadecimalDigits octets digits →
+    IsDigit (octet / 16) high →
+    IsDigit (octet % 16) low → AreHexadecimalDigits (octets ++ octet ∷ []) (digits ++ high ∷ low ∷ [])
 one_more [] digits octet high low h a b = (high, low, [], a, b, refl, ap (λ l. l ++ high ∷ low ∷ []) h)
 one_more (x ∷ octets) digits octet high low (first, second, rest, p, q, more, e) a b = (
   first,
@@ -77,8 +78,8 @@ one_more (x ∷ octets) digits octet high low (first, second, rest, p, q, more, 
 -- two digits more are read
 pub pair_read : (octets digits : List ℕ) (i high low : ℕ) → i < length octets → 2 * i + 1 < length digits →
     IsDigit high (slice_index digits (2 * i)) → IsDigit low (slice_index digits (2 * i + 1))
-    → IsHexadecimal (take i octets) (take (2 * i) digits) →
-    IsHexadecimal (take (i + 1) (slice_set octets i (high * 16 + low))) (take (2 * (i + 1)) digits)
+    → AreHexadecimalDigits (take i octets) (take (2 * i) digits) →
+    AreHexadecimalDigits (take (i + 1) (slice_set octets i (high * 16 + low))) (take (2 * (i + 1)) digits)
 pair_read octets digits i high low room fits a b read =
     let octet : ℕ = high * 16 + low in
     let first : high ≡ octet / 16 = omega (arith, a.0, b.0) in
@@ -94,14 +95,14 @@ pair_read octets digits i high low room fits a b read =
     (subst (λ (d : ℕ). IsDigit d (slice_index digits (2 * i + 1))) second b))
 
 -- an even number of digits
-pub even_digits : (octets digits : List ℕ) → IsHexadecimal octets digits → length digits ≡ 2 * length octets
+pub even_digits : (octets digits : List ℕ) → AreHexadecimalDigits octets digits → length digits ≡ 2 * length octets
 even_digits [] digits h = rw h refl
 even_digits (octet ∷ octets) digits (high, low, rest, a, b, more, e) =
     let n = even_digits octets rest more in
     rw e (omega (arith, n))
 
 -- the digits of one of the octets
-pub digits_at : (octets digits : List ℕ) (i : ℕ) → IsHexadecimal octets digits → 2 * i + 1 < length digits
+pub digits_at : (octets digits : List ℕ) (i : ℕ) → AreHexadecimalDigits octets digits → 2 * i + 1 < length digits
     → (octet : ℕ) × IsDigit (octet / 16) (slice_index digits (2 * i)) ×
     IsDigit (octet % 16) (slice_index digits (2 * i + 1))
 digits_at [] digits i h lt = absurd (omega (arith, ap length h))
@@ -121,7 +122,8 @@ value_of_digit d c (small, inr e) = ap hex_digit_value e ∙ IsDigits-upper_digi
 one_number : (d e c : ℕ) → IsDigit d c → IsDigit e c → d ≡ e
 one_number d e c a b = let same : Some d ≡ Some e = sym (value_of_digit d c a) ∙ value_of_digit e c b in cc
 
-same_octets : (octets others digits : List ℕ) → IsHexadecimal octets digits → IsHexadecimal others digits →
+same_octets : (octets others digits : List ℕ) → AreHexadecimalDigits octets digits →
+    AreHexadecimalDigits others digits →
     octets ≡ others
 same_octets [] [] digits h k = refl
 same_octets [] (y ∷ others) digits h (high, low, rest, a, b, more, e) = absurd (cc)
@@ -133,7 +135,7 @@ same_octets (x ∷ octets) (y ∷ others) digits (high, low, rest, a, b, more, e
     let m = one_number (x / 16) (y / 16) first (subst (IsDigit (x / 16)) one a) p in
     let n = one_number (x % 16) (y % 16) second (subst (IsDigit (x % 16)) two b) q in
     let same : x ≡ y = omega (arith, m, n) in
-    let others_same = same_octets octets others tail (subst (IsHexadecimal octets) end more) after in
+    let others_same = same_octets octets others tail (subst (AreHexadecimalDigits octets) end more) after in
     cc
 
 -- no octet stands behind `-`
@@ -153,13 +155,13 @@ one_meaning (x ∷ octets) (y ∷ others) digits h k = same_octets (x ∷ octets
 -- What digits stand for.
 
 -- digits of octets stand for them, where there are some
-pub stands : (octets digits : List ℕ) → false ≡ (length digits == 0) → IsHexadecimal octets digits →
+pub stands : (octets digits : List ℕ) → false ≡ (length digits == 0) → AreHexadecimalDigits octets digits →
     StandsFor octets digits
 stands [] digits some h = absurd (let none = ap length h in cc)
 stands (octet ∷ octets) digits some h = h
 
 -- what else stands for octets is digits of them
 pub digits_where_stands : (octets digits : List ℕ) → digits ≢ codes "-" → StandsFor octets digits →
-    IsHexadecimal octets digits
+    AreHexadecimalDigits octets digits
 digits_where_stands [] digits other h = absurd (other h)
 digits_where_stands (octet ∷ octets) digits other h = h

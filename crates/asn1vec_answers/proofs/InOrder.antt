@@ -10,7 +10,7 @@ use Rattle.std.specs.Set.{is_member}
 use Rattle.std.specs.declared.cmp.Ordering.{Ordering}
 use Rattle.std.specs.declared.cmp.Ordering.TheVariants.{Less, Equal, Greater}
 use Rattle.std.proofs.lemmas.Map.Lookups.{CmpEqualImpliesEq, btree_set_from_contains}
-use Rattle.asn1vec_answers.specs.Shown.{in_order}
+use Rattle.asn1vec_answers.specs.Shown.{sorted_keys}
 
 or_again : (a b : Bool) → (a || b) ≡ (a || (a || b))
 or_again true b = refl
@@ -67,27 +67,27 @@ module _ {K : Type 0} (cmp : K → K → Ordering) (total : IsTotalOrder cmp) wh
       by later Greater e = ap (λ b. eq_by_cmp cmp q y || b) later
           ∙ or_other (eq_by_cmp cmp q y) (eq_by_cmp cmp q k) (is_member (eq_by_cmp cmp) ys q)
 
-  pub in_order_sorted : (ks : List K) → IsStrictlySortedBy cmp (in_order cmp ks)
+  pub in_order_sorted : (ks : List K) → IsStrictlySortedBy cmp (sorted_keys cmp ks)
   unfolding IsStrictlySortedBy
   in_order_sorted [] = tt
-  in_order_sorted (k ∷ ks) = insert_sorted (in_order cmp ks) k (in_order_sorted ks)
+  in_order_sorted (k ∷ ks) = insert_sorted (sorted_keys cmp ks) k (in_order_sorted ks)
 
   pub in_order_member : (ks : List K) (q : K) →
-      is_member (eq_by_cmp cmp) (in_order cmp ks) q ≡ is_member (eq_by_cmp cmp) ks q
+      is_member (eq_by_cmp cmp) (sorted_keys cmp ks) q ≡ is_member (eq_by_cmp cmp) ks q
   in_order_member [] q = refl
   in_order_member (k ∷ ks) q =
-      insert_member (in_order cmp ks) k q ∙ ap (λ b. eq_by_cmp cmp q k || b) (in_order_member ks q)
+      insert_member (sorted_keys cmp ks) k q ∙ ap (λ b. eq_by_cmp cmp q k || b) (in_order_member ks q)
 
   abbrev set_in_order : List K → BTreeSet K
-  set_in_order ks = record { keys = in_order cmp ks }
+  set_in_order ks = record { keys = sorted_keys cmp ks }
 
   -- the set that has the keys is one, where keys are alike for the order only if they are the same
   module _ (apart : CmpEqualImpliesEq cmp) where
-    pub collected_in_order : (ks : List K) (s : BTreeSet K) → IsFromIterResult cmp ks s → s.keys ≡ in_order cmp ks
+    pub collected_in_order : (ks : List K) (s : BTreeSet K) → IsFromIterResult cmp ks s → s.keys ≡ sorted_keys cmp ks
     collected_in_order ks s h = btree_set_from_contains total s (set_in_order ks) h.1 (in_order_sorted ks)
         (λ q. h.0 q ∙ sym (in_order_member ks q)) apart
 
     pub in_order_same : (ks ls : List K) → ((q : K) → is_member (eq_by_cmp cmp) ks q ≡ is_member (eq_by_cmp cmp) ls q) →
-        in_order cmp ks ≡ in_order cmp ls
+        sorted_keys cmp ks ≡ sorted_keys cmp ls
     in_order_same ks ls same = btree_set_from_contains total (set_in_order ks) (set_in_order ls) (in_order_sorted ks)
         (in_order_sorted ls) (λ q. in_order_member ks q ∙ same q ∙ sym (in_order_member ls q)) apart

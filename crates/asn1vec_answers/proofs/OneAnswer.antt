@@ -21,8 +21,8 @@ use Rattle.asn1_rs.specs.BitString.{bit_string_leaf}
 use Rattle.asn1_rs.specs.Boolean.{bool_leaf}
 use Rattle.asn1_rs.specs.EndOfContent.{end_leaf}
 use Rattle.asn1_rs.specs.Enumerated.{enumerated_leaf}
-use Rattle.asn1_rs.specs.Integer.Octets.{any_integer_leaf, octets_held}
-use Rattle.asn1_rs.specs.Leaf.{Leaf, IsLawfulLeafUpTo, LeafBody, LeafGives, LeafTakes, LendsContent}
+use Rattle.asn1_rs.specs.Integer.Octets.{any_integer_leaf, content_slice}
+use Rattle.asn1_rs.specs.Leaf.{Leaf, IsLawfulLeafUpTo, LeafBody, LeafGives, LeafConverts, LendsContent}
 use Rattle.asn1_rs.specs.Null.{null_leaf}
 use Rattle.asn1_rs.specs.OctetString.{octet_string_leaf, cow_of}
 use Rattle.asn1_rs.specs.Laws.BitString.{bit_string_lawful}
@@ -69,8 +69,8 @@ use Rattle.asn1vec_answers.specs.declared.types.TypeName.TheVariants.{Graphic, V
 use Rattle.asn1vec_answers.specs.declared.types.TypeName.TheVariants.{Bmp, UtcTime, GenTime, Pdv, X509Name}
 use Rattle.asn1vec_answers.proofs.NamedTypes.{types}
 use Rattle.asn1vec_answers.specs.Request.{IsRequest}
-use Rattle.asn1vec_answers.specs.Shown.{Encoding, IsWritten, IsWrittenUnless, bits_text, element_text, identifier_text}
-use Rattle.asn1vec_answers.specs.Shown.{in_hexadecimal, pdv_text, truth_text}
+use Rattle.asn1vec_answers.specs.Shown.{Encoding, IsWritten, IsWrittenUnless, bit_string_text, any_text, oid_text}
+use Rattle.asn1vec_answers.specs.Shown.{in_hexadecimal, pdv_text, boolean_text}
 use Rattle.asn1vec_answers.specs.Meaning.{Meaning}
 use Rattle.asn1vec_answers.specs.Types.{name_allocates, name_of_type, meaning_of, integers, elements, identifiers}
 use Rattle.asn1vec_answers.specs.Types.{LeafEncoding, copying_leaf, coded_strings, data_values, leaf, leaf_by}
@@ -121,7 +121,7 @@ elements_once rule octets a b p q =
   where
     shown : (x y : AnyElement) → element_of x ≡ element_of y → ShownAlike elements x y
     shown x y same = record {
-      text = ap element_text same;
+      text = ap any_text same;
       encoding = strict_same ElementForm element_lawful.one_form false (element_of x) (element_of y) same;
     }
 
@@ -137,7 +137,7 @@ identifiers_once rule octets a b p q =
 
     shown : (x y : Identifier) → oid_value x ≡ oid_value y → ShownAlike identifiers x y
     shown x y same = record {
-      text = ap identifier_text same;
+      text = ap oid_text same;
       encoding = λ e f h k. written_same false (written (oid_value y)) e f
           (subst (λ (v : OidValue). IsWritten false (written v) e) same h) k;
     }
@@ -181,7 +181,8 @@ module _ {K : Type 0} {key : Error → K} (keeps : KeepsNames key) {T : Type 0} 
   lent_once content text = leaf_as_once (LendsContent L content) text (λ a e h. h.0)
 
   copying_once : (text : L.Value → List ℕ) → HasOneAnswer (copying_leaf L text)
-  copying_once text = leaf_by_once true (OfParts (LeafTakes L)) (LeafEncoding L) text (one_of_copied L conversion_once)
+  copying_once text =
+      leaf_by_once true (OfParts (LeafConverts L)) (LeafEncoding L) text (one_of_copied L conversion_once)
       (λ v. written_same false (leaf_octets L v))
 
   refusing_once : (is_refused : L.Value → Truth) (refusal : Error) (text : L.Value → List ℕ) →
@@ -237,16 +238,16 @@ type_once I32 = integers_once (λ n. n) (IsSigned 4) (SignedRefuses 4) (one_sign
 type_once I64 = integers_once (λ n. n) (IsSigned 8) (SignedRefuses 8) (one_signed_refusal 8)
 type_once I128 = integers_once (λ n. n) (IsSigned 16) (SignedRefuses 16) (one_signed_refusal 16)
 type_once Any = elements_once
-type_once Bool = leaf_once whole_keeps bool_leaf bool_lawful truth_text
+type_once Bool = leaf_once whole_keeps bool_leaf bool_lawful boolean_text
 type_once Null = leaf_once whole_keeps null_leaf null_lawful (λ v. codes "null")
 type_once Enumerated = leaf_once whole_keeps enumerated_leaf enumerated_lawful decimal
-type_once Integer = lent_once whole_keeps any_integer_leaf any_integer_lawful octets_held in_hexadecimal
+type_once Integer = lent_once whole_keeps any_integer_leaf any_integer_lawful content_slice in_hexadecimal
 type_once Octets = lent_once whole_keeps octet_string_leaf octet_string_lawful cow_of in_hexadecimal
-type_once Bits = lent_once whole_keeps bit_string_leaf bit_string_lawful (λ x. x.content) bits_text
+type_once Bits = lent_once whole_keeps bit_string_leaf bit_string_lawful (λ x. x.content) bit_string_text
 type_once Eoc = ends_once
 type_once VecU8 = alone_once false _ (vector_once _ (unsigned_once 1))
 type_once VecU32 = alone_once false _ (vector_once _ (unsigned_once 4))
-type_once VecBool = alone_once false _ (vector_once _ (leaf_item_once whole_keeps bool_leaf truth_text bool_lawful))
+type_once VecBool = alone_once false _ (vector_once _ (leaf_item_once whole_keeps bool_leaf boolean_text bool_lawful))
 type_once VecVecU8 = alone_once false _ (vector_once _ (vector_once _ (unsigned_once 1)))
 type_once SetOfU8 = collection_once _ (unordered_set_once _ (unsigned_once 1))
 type_once BTreeSetU8 = collection_once _ (ordered_unsigned_once 1)

@@ -55,7 +55,8 @@ use Rattle.asn1_rs.specs.Laws.Readers.{ber_elements, der_elements, element_exact
 use Rattle.asn1_rs.specs.Laws.Words.{one_strict}
 use Rattle.asn1vec_answers.specs.declared.request.Rule.{Rule}
 use Rattle.asn1vec_answers.specs.declared.request.Rule.TheVariants.{Ber, Der}
-use Rattle.asn1vec_answers.specs.Shown.{Encoding, IsUnwritten, IsWritten, Reading, Same, StrictEncodingIfAny, in_order}
+use Rattle.asn1vec_answers.specs.Shown.{Encoding, IsUnwritten, IsWritten, Reading, Same, StrictEncodingIfAny}
+use Rattle.asn1vec_answers.specs.Shown.{sorted_keys}
 use Rattle.asn1vec_answers.specs.Shown.{list_text}
 use Rattle.asn1vec_answers.proofs.InOrder.{in_order_same}
 use Rattle.asn1_rs.specs.declared.asn1_types.sequence.sequence_of.SequenceOf.{SequenceOf}
@@ -183,7 +184,7 @@ module _ (I : Item) (one : IsOneItem I) where
     Hashed = HashSet I.T (BuildHasherDefault FoldHasher)
 
     seen : Hashed → List I.T × Members I.grammar.Value
-    seen s = (in_order cmp s.keys, members (is_other (eq_by_cmp cmp)) I.grammar.value s.keys)
+    seen s = (sorted_keys cmp s.keys, members (is_other (eq_by_cmp cmp)) I.grammar.value s.keys)
 
     both : {A B : Type 0} {a b : A} {c d : B} → a ≡ b → c ≡ d → ◌≡◌ {A = A × B} (a, c) (b, d)
     both p q = cc

@@ -17,10 +17,10 @@ use Rattle.asn1_headers.specs.Ber.{max_depth, EndsWithin}
 use Rattle.asn1_headers.specs.Error.{FlattenedTo}
 use Rattle.asn1_headers.specs.Header.Reading.{refusal_of, der_violation, ber_violation}
 use Rattle.asn1_rs.specs.Checks.{CheckGives, IsCheck}
-use Rattle.asn1_rs.specs.Lists.{ListGives, ListTakes}
+use Rattle.asn1_rs.specs.Lists.{ListGives, ListConverts}
 use Rattle.asn1_headers.specs.Walk.{TakesItem, EndsItem}
 use Rattle.asn1_rs.specs.Traits.{BerGives, DerGives, ElementGives, OfParts, PassesAll}
-use Rattle.asn1_rs.specs.Laws.Readers.{AreElements, ber_elements, der_elements}
+use Rattle.asn1_rs.specs.Laws.Readers.{AreLawfulElements, ber_elements, der_elements}
 use Rattle.asn1vec_answers.specs.Names.{name_of_error}
 use Rattle.asn1vec_answers.specs.Shown.{Reading, Same}
 use Rattle.asn1vec_answers.proofs.OneRefusal.{SameError, SameRefusal, named, no_memory, one_reading_refusal, same_parts}
@@ -92,7 +92,7 @@ one_by_parts view allocates convert once a b x y same h k =
 
 -- An element that is read and converted, where no check refuses.
 module _ (ElementOf : List ℕ → Parts → Type 0) (FaultOf : List ℕ → Fault → Type 0) (IsTruncated : List ℕ → Type 0)
-    (elements : AreElements ElementOf FaultOf IsTruncated) (refuses : Violation → Error)
+    (elements : AreLawfulElements ElementOf FaultOf IsTruncated) (refuses : Violation → Error)
     {T D : Type 0} (view : T → D) (allocates : Bool) (convert : Any → Result T Error → Type 0)
     (once : IsOneTaking view allocates convert) where
   abbrev Gives : List ℕ → Reading T → Type 0
@@ -218,7 +218,7 @@ module _ {T D : Type 0} (view : T → D) (allocates : Bool) (reads : List ℕ �
     -- Conversions of elements to lists.
 
     module _ (check : CheckGives) (is : IsCheck check) where
-      pub takes_once : IsOneConversion sight true (ListTakes check holds reads Same)
+      pub takes_once : IsOneConversion sight true (ListConverts check holds reads Same)
       takes_once p (Ok v) (Ok w) h k = list_once p.content (Ok v) (Ok w) h.1 k.1
       takes_once p (Ok v) (Err f) h (inl (r, other, same)) = absurd (is.apart p r h.0 other)
       takes_once p (Ok v) (Err f) h (inr k) = list_once p.content (Ok v) (Err f) h.1 k.1
@@ -232,12 +232,13 @@ module _ {T D : Type 0} (view : T → D) (allocates : Bool) (reads : List ℕ �
 
       -- Readers of lists.
 
-      pub taken_by_ber : IsOneReader sight true (BerGives (OfParts (ListTakes check holds reads Same)) Same)
+      pub taken_by_ber : IsOneReader sight true (BerGives (OfParts (ListConverts check holds reads Same)) Same)
       taken_by_ber = one_element (IsElement max_depth) (ElementFault max_depth) EndsWithin ber_elements ber_violation
-          sight true (OfParts (ListTakes check holds reads Same))
-          (one_by_parts sight true (ListTakes check holds reads Same) takes_once)
+          sight true (OfParts (ListConverts check holds reads Same))
+          (one_by_parts sight true (ListConverts check holds reads Same) takes_once)
 
-      pub taken_by_der : IsOneReader sight true (DerGives PassesAll (OfParts (ListTakes check holds reads Same)) Same)
+      pub taken_by_der : IsOneReader sight true (DerGives PassesAll (OfParts (ListConverts check holds reads Same))
+          Same)
       taken_by_der = one_element IsDerElement DerElementFault IsTruncatedIdentifier der_elements der_violation sight true
-          (OfParts (ListTakes check holds reads Same))
-          (one_by_parts sight true (ListTakes check holds reads Same) takes_once)
+          (OfParts (ListConverts check holds reads Same))
+          (one_by_parts sight true (ListConverts check holds reads Same) takes_once)

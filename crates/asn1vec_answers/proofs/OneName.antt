@@ -40,9 +40,9 @@ use Rattle.x509_name.specs.Laws.Attribute.{attribute_item_lawful}
 use Rattle.x509_name.specs.Laws.Reading.{attribute_exact}
 use Rattle.x509_name.specs.Laws.RelativeNameWriting.{name_lawful_writing}
 use Rattle.x509_name.specs.Name.{NameGives, RowReads, name_octets, name_value, name_writing, relative_names, rows_of}
-use Rattle.x509_name.specs.RelativeName.{IsSome, RelativeNameGives, SetReads, attributes, listed_values}
+use Rattle.x509_name.specs.RelativeName.{IsNonEmpty, RelativeNameGives, SetReads, attributes, listed_values}
 use Rattle.x509_name.specs.RelativeName.{relative_name_value, relative_name_writing}
-use Rattle.asn1vec_answers.specs.Shown.{CameOfWriting, Encoding, IsWritten, Same, name_text}
+use Rattle.asn1vec_answers.specs.Shown.{CameOfWriting, Encoding, IsWritten, Same, distinguished_name_text}
 use Rattle.asn1vec_answers.specs.Types.{names}
 use Rattle.asn1vec_answers.proofs.OneItem.{element_by_der, follows}
 use Rattle.asn1vec_answers.proofs.OneList.{IsOneReader, taken_by_der}
@@ -147,7 +147,7 @@ none_seen (x ∷ xs) e = absurd (cc)
 -- a set of some attributes is not one of none
 some_or_none : (octets rest tail : List ℕ) (x : RelativeDistinguishedName) (s t : SetOf AttributeTypeAndValue) →
     SetReads octets (Ok (rest, s)) → SetReads octets (Ok (tail, t)) → items_of s ≡ attributes x →
-    IsSome (attributes x) → items_of t ≡ [] → ⊥
+    IsNonEmpty (attributes x) → items_of t ≡ [] → ⊥
 some_or_none octets rest tail x s t g h is some none = some (none_seen (attributes x)
     (ap (map attribute_value) (sym is) ∙ (set_once octets (Ok (rest, s)) (Ok (tail, t)) g h).0
     ∙ ap (map attribute_value) none))
@@ -190,28 +190,28 @@ rows_once = taken_by_der listed_values true RelativeNameGives relative_name_once
 -- Each relative name that was read has some attributes.
 
 each_some : (octets : List ℕ) (xs : List RelativeDistinguishedName) →
-    Yields (TakesItem RelativeNameGives Same) octets (map Ok xs) [] → All (λ r. IsSome (attributes r)) xs
-each_some octets [] walk = All-nil (λ r. IsSome (attributes r))
+    Yields (TakesItem RelativeNameGives Same) octets (map Ok xs) [] → All (λ r. IsNonEmpty (attributes r)) xs
+each_some octets [] walk = All-nil (λ r. IsNonEmpty (attributes r))
 each_some octets (x ∷ xs) (j, (some, is, less), more) =
-    All-cons (λ r. IsSome (attributes r)) x xs is.3 (each_some j xs more)
+    All-cons (λ r. IsNonEmpty (attributes r)) x xs is.3 (each_some j xs more)
 
 name_some : (octets rest : List ℕ) (x : Name) → NameGives octets (Ok (rest, x)) →
-    All (λ r. IsSome (attributes r)) (relative_names x)
+    All (λ r. IsNonEmpty (attributes r)) (relative_names x)
 name_some octets rest x (any, begins, passes, (check, (items, held, walk))) =
-    subst (All (λ r. IsSome (attributes r))) (sym held) (each_some (parts_of any).content items walk)
+    subst (All (λ r. IsNonEmpty (attributes r))) (sym held) (each_some (parts_of any).content items walk)
 
 -- Where each has, nothing of the name's own refuses it.
 
-some_at : (rs : List RelativeDistinguishedName) → All (λ r. IsSome (attributes r)) rs → (k : ℕ)
-    (r : RelativeDistinguishedName) → k < length rs → slice_index_or rs k r ≡ r → IsSome (attributes r)
-some_at rs all k r within is = subst (λ (z : RelativeDistinguishedName). IsSome (attributes z)) is (all k r within)
+some_at : (rs : List RelativeDistinguishedName) → All (λ r. IsNonEmpty (attributes r)) rs → (k : ℕ)
+    (r : RelativeDistinguishedName) → k < length rs → slice_index_or rs k r ≡ r → IsNonEmpty (attributes r)
+some_at rs all k r within is = subst (λ (z : RelativeDistinguishedName). IsNonEmpty (attributes z)) is (all k r within)
 
-relative_name_written : (r : RelativeDistinguishedName) → IsSome (attributes r) →
+relative_name_written : (r : RelativeDistinguishedName) → IsNonEmpty (attributes r) →
     HasNone (whole_refuses relative_name_writing r)
 relative_name_written r some e (inl (f, (none, tells), told)) = some none
 relative_name_written r some e (inr (f, (none, tells), told)) = some none
 
-name_written : (x : Name) → All (λ r. IsSome (attributes r)) (relative_names x) →
+name_written : (x : Name) → All (λ r. IsNonEmpty (attributes r)) (relative_names x) →
     HasNone (whole_refuses name_writing x)
 name_written x all e (inl (f, (k, r, within, is, (none, tells)), told)) =
     some_at (relative_names x) all k r within is none
@@ -234,10 +234,10 @@ octets_same x y same =
     let w = name_lawful_writing.by_value x y value in
     both_by_value w.1 w.2
 
-shown : (x y : Name) → rows_of x ≡ rows_of y → All (λ r. IsSome (attributes r)) (relative_names x) →
-    All (λ r. IsSome (attributes r)) (relative_names y) → ShownAlike names x y
+shown : (x y : Name) → rows_of x ≡ rows_of y → All (λ r. IsNonEmpty (attributes r)) (relative_names x) →
+    All (λ r. IsNonEmpty (attributes r)) (relative_names y) → ShownAlike names x y
 shown x y same some more = record {
-  text = ap name_text same;
+  text = ap distinguished_name_text same;
   encoding = λ e f h k. written_same true (name_octets y) e f
       (subst (λ (l : List ℕ). IsWritten true l e) (octets_same x y same)
       (came_written true (name_octets x) (whole_refuses name_writing x) (name_written x some) e h))

@@ -15,7 +15,7 @@ use Rattle.asn1_rs.specs.declared.asn1_types.any.Any.{Any}
 use Rattle.asn1_headers.specs.Header.Reading.{der_violation, ber_violation}
 use Rattle.asn1_headers.specs.declared.error.SerializeError.{SerializeError}
 use Rattle.asn1_headers.specs.declared.error.SerializeError.TheVariants as serialize_errors
-use Rattle.asn1_headers.specs.Answers.{Exactly, Front, IsFinal, TellsMemory}
+use Rattle.asn1_headers.specs.Answers.{Exactly, HasPrefix, IsFinal, TellsMemory}
 use Rattle.asn1_rs.specs.Grammar.Form.{IsOneForm, IsStrict}
 use Rattle.asn1_rs.specs.Optional.{in_some}
 use Rattle.asn1_headers.specs.Writer.{MayRefuse}
@@ -30,7 +30,7 @@ use Rattle.asn1vec_answers.specs.declared.request.Rule.TheVariants.{Ber, Der}
 use Rattle.asn1vec_answers.specs.Names.{name_of_refusal}
 use Rattle.asn1vec_answers.specs.Shown.{in_hexadecimal, Encoding, Reading, written_text, encoding_text, ok_text}
 use Rattle.asn1vec_answers.specs.Shown.{SaysAnswer}
-use Rattle.asn1vec_answers.specs.Shown.{Same, IsReadAnswer, ReadsByBer, ReadsByDer, IsWritten, IsWrittenUnless}
+use Rattle.asn1vec_answers.specs.Shown.{Same, IsReadAnswer, ReadingByBer, ReadingByDer, IsWritten, IsWrittenUnless}
 use Rattle.asn1vec_answers.specs.Shown.{StrictEncoding}
 use Rattle.asn1vec_answers.specs.Meaning.{Meaning, ReadsByEither, optional}
 use Rattle.asn1vec_answers.specs.Memory.{DifferByMemory}
@@ -213,13 +213,13 @@ module _ {T V : Type 0} (IsTruncated : List ℕ → Type 0) (G : List ℕ → V 
     (gives : List ℕ → Reading T → Type 0) (one_word : IsPrefixFree G)
     (one_refusal : (octets : List ℕ) (q r : Refusal Error) → gives octets (Err q) → gives octets (Err r) →
     SameRefusal allocates q r) where
-  one_front : (octets rest tail : List ℕ) (v w : V) → Front G octets v rest → Front G octets w tail →
+  one_front : (octets rest tail : List ℕ) (v w : V) → HasPrefix G octets v rest → HasPrefix G octets w tail →
       (v ≡ w) × (rest ≡ tail)
   one_front octets rest tail v w f g =
       let one = one_word.one f.word g.word rest tail v w f.fits g.fits (sym f.is ∙ g.is) in
       (one.1, append_cancel_left f.word rest tail (sym f.is ∙ g.is ∙ ap (λ (x : List ℕ). x ++ tail) (sym one.0)))
 
-  front_or_refusal : (octets rest : List ℕ) (v : V) (r : Refusal Error) → Front G octets v rest →
+  front_or_refusal : (octets rest : List ℕ) (v : V) (r : Refusal Error) → HasPrefix G octets v rest →
       TellsMemory allocates Same r ⊎ IsFinal (IsTruncated octets) r G octets → (allocates ≡ true) × (r ≡ no_memory)
   front_or_refusal octets rest v r f (inl memory) = tells_no_memory allocates r memory
   front_or_refusal octets rest v r f (inr final) =
@@ -246,8 +246,8 @@ module _ {T V : Type 0} (Body : Parts → V → Type 0) (value : T → V) (alloc
     (convert : Any → Result T Error → Type 0) (one_body : IsOneBody Body)
     (one_conversion : IsOneRefusalBut allocates convert) where
   pub ber_same : (octets : List ℕ) (a b : Reading T) →
-      ReadsByBer (BerWord Body) value allocates (BerGives convert Same) octets a →
-      ReadsByBer (BerWord Body) value allocates (BerGives convert Same) octets b
+      ReadingByBer (BerWord Body) value allocates (BerGives convert Same) octets a →
+      ReadingByBer (BerWord Body) value allocates (BerGives convert Same) octets b
       → SameReading (λ x y. value x ≡ value y) allocates a b
   ber_same = readings_same EndsWithin (BerWord Body) value allocates (BerGives convert Same)
       (word_one (IsElement max_depth) NoCheck Body ber_elements.one one_body)
@@ -257,8 +257,8 @@ module _ {T V : Type 0} (Body : Parts → V → Type 0) (value : T → V) (alloc
   module _ (check : Parts → Result (Unit {0}) Error → Type 0) (Check : Parts → Type 0) (one_check : IsOneRefusal check)
       (checked : (p : Parts) (e : Error) → check p (Ok tt) → check p (Err e) → ⊥) where
     pub der_same : (octets : List ℕ) (a b : Reading T) →
-        ReadsByDer (DerWord Check Body) value allocates (DerGives check convert Same) octets a →
-        ReadsByDer (DerWord Check Body) value allocates (DerGives check convert Same) octets b
+        ReadingByDer (DerWord Check Body) value allocates (DerGives check convert Same) octets a →
+        ReadingByDer (DerWord Check Body) value allocates (DerGives check convert Same) octets b
         → SameReading (λ x y. value x ≡ value y) allocates a b
     der_same = readings_same IsTruncatedIdentifier (DerWord Check Body) value allocates (DerGives check convert Same)
         (word_one IsDerElement Check Body der_elements.one one_body)

@@ -12,12 +12,12 @@ use Rattle.asn1_headers.specs.declared.tag.Tag.{Tag}
 use Rattle.asn1_rs.specs.declared.asn1_types.any.Any.{Any}
 use Rattle.asn1_rs.specs.Any.{parts_of}
 use Rattle.asn1_rs.specs.Checks.{but_text}
-use Rattle.asn1_rs.specs.Leaf.{Leaf, LeafGives, LeafTakes}
+use Rattle.asn1_rs.specs.Leaf.{Leaf, LeafGives, LeafConverts}
 use Rattle.asn1_rs.specs.Traits.{OfParts, ElementGives}
-use Rattle.asn1_headers.specs.Answers.{Front}
+use Rattle.asn1_headers.specs.Answers.{HasPrefix}
 use Rattle.asn1_headers.specs.Error.{Converted}
 use Rattle.asn1_headers.specs.Header.Reading.{refusal_of}
-use Rattle.asn1_rs.specs.Laws.Readers.{AreElements, speaks_itself, speaks_now}
+use Rattle.asn1_rs.specs.Laws.Readers.{AreLawfulElements, speaks_itself, refusal_speaks_now}
 use Rattle.asn1vec_answers.specs.Names.{with_brackets, name_of_error, name_of_needed, name_of_refusal}
 use Rattle.asn1vec_answers.specs.Shown.{Same}
 
@@ -103,7 +103,7 @@ one_of_parts gives one a b e f same h k = inl (one (parts_of a) e f h (subst (λ
 
 -- and one that looks at parts alone and copies what it answers
 pub one_of_copied : {S : Type 0} (L : Leaf S) → IsOneRefusal (LeafGives L) →
-    IsOneRefusalBut true (OfParts (LeafTakes L))
+    IsOneRefusalBut true (OfParts (LeafConverts L))
 one_of_copied L one a b e f same (inl h) (inl k) =
     inl (one (parts_of a) e f h (subst (λ (p : Parts). LeafGives L p (Err f)) same k))
 one_of_copied L one a b e f same (inl h) (inr k) = inr (refl, inr k.1)
@@ -118,22 +118,22 @@ refused_same allocates q r e f (inr (takes, inr memory)) is too = inr (takes, in
 
 -- one element alone begins octets, and none where there is a fault
 module _ (ElementOf : List ℕ → Parts → Type 0) (FaultOf : List ℕ → Fault → Type 0) (IsTruncated : List ℕ → Type 0)
-    (elements : AreElements ElementOf FaultOf IsTruncated) where
-  pub same_parts : (input rest tail : List ℕ) (p o : Parts) → Front ElementOf input p rest →
-      Front ElementOf input o tail → o ≡ p
+    (elements : AreLawfulElements ElementOf FaultOf IsTruncated) where
+  pub same_parts : (input rest tail : List ℕ) (p o : Parts) → HasPrefix ElementOf input p rest →
+      HasPrefix ElementOf input o tail → o ≡ p
   same_parts input rest tail p o f g = (elements.one.one g.word f.word tail rest o p g.fits f.fits (sym g.is ∙ f.is)).1
 
-  pub same_tail : (input rest tail : List ℕ) (p o : Parts) → Front ElementOf input p rest →
-      Front ElementOf input o tail → rest ≡ tail
+  pub same_tail : (input rest tail : List ℕ) (p o : Parts) → HasPrefix ElementOf input p rest →
+      HasPrefix ElementOf input o tail → rest ≡ tail
   same_tail input rest tail p o f g =
       let words = (elements.one.one f.word g.word rest tail p o f.fits g.fits (sym f.is ∙ g.is)).0 in
       append_cancel_left f.word rest tail (sym f.is ∙ g.is ∙ ap (λ (l : List ℕ). l ++ tail) (sym words))
 
   pub element_or_fault : (refuses : Violation → Error) (input rest : List ℕ) (p : Parts) (fault : Fault) →
-      Front ElementOf input p rest → FaultOf input fault → ⊥
+      HasPrefix ElementOf input p rest → FaultOf input fault → ⊥
   element_or_fault refuses input rest p fault f why =
       let silent = speaks_itself refuses fault (refusal_of refuses fault) (IsTruncated input) []
-      (elements.counts input fault why) refl (speaks_now (IsTruncated input) (refusal_of refuses fault)) in
+      (elements.counts input fault why) refl (refusal_speaks_now (IsTruncated input) (refusal_of refuses fault)) in
       elements.final input [] f.word rest p fault why silent f.fits (append-nil input ∙ f.is)
 
 module _ {T : Type 0} (allocates : Bool) (check : Parts → Result (Unit {0}) Error → Type 0)
@@ -161,7 +161,7 @@ module _ {T : Type 0} (allocates : Bool) (check : Parts → Result (Unit {0}) Er
         refused_same allocates q r e f (one_conversion a b e f alike why also) is too
 
     module _ (ElementOf : List ℕ → Parts → Type 0) (FaultOf : List ℕ → Fault → Type 0) (IsTruncated : List ℕ → Type 0)
-        (elements : AreElements ElementOf FaultOf IsTruncated) (refuses : Violation → Error) where
+        (elements : AreLawfulElements ElementOf FaultOf IsTruncated) (refuses : Violation → Error) where
       abbrev Gives : List ℕ → Result (List ℕ × T) (Refusal Error) → Type 0
       Gives = ElementGives ElementOf FaultOf (refusal_of refuses) check convert Same
 

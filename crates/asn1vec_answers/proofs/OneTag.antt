@@ -15,16 +15,16 @@ use Rattle.asn1_headers.specs.declared.error.Err.{Err as Refusal}
 use Rattle.asn1_headers.specs.declared.error.Err.TheVariants.{Error as refused}
 use Rattle.asn1_headers.specs.declared.error.Error.{Error}
 use Rattle.asn1_headers.specs.declared.tag.Tag.{Tag}
-use Rattle.asn1_rs.specs.Lists.{IsListOr, ListTakes, has_items}
+use Rattle.asn1_rs.specs.Lists.{IsListOr, ListConverts, has_items}
 use Rattle.asn1_rs.specs.Laws.Lists.{is_list_or_is, list_number, list_takes_class}
 use Rattle.asn1_rs.specs.Laws.Tagged.Implicit.{implicit_checks_are, implicit_lawful, parts_under}
-use Rattle.asn1_rs.specs.Tagged.Implicit.{ImplicitTakes, implicit_checks, under}
+use Rattle.asn1_rs.specs.Tagged.Implicit.{ImplicitConverts, implicit_checks, under}
 use Rattle.asn1_rs.specs.Tagged.Parser.{IsUnder}
-use Rattle.asn1_headers.specs.Answers.{Front}
+use Rattle.asn1_headers.specs.Answers.{HasPrefix}
 use Rattle.asn1_headers.specs.Ber.{max_depth, EndsWithin}
 use Rattle.asn1_headers.specs.Header.Reading.{refusal_of, ber_violation, der_violation}
 use Rattle.asn1_rs.specs.Tagged.{ReadsWhole}
-use Rattle.asn1_rs.specs.Tagged.Explicit.{ExplicitGives, ExplicitReads, ExplicitTakes}
+use Rattle.asn1_rs.specs.Tagged.Explicit.{ExplicitGives, ExplicitReads, ExplicitConverts}
 use Rattle.asn1_rs.specs.Traits.{BerGives, OfParts}
 use Rattle.asn1_rs.specs.Laws.Readers.{ber_elements, der_elements}
 use Rattle.asn1_rs.specs.Laws.Tagged.Explicit.{explicit_lawful, tag_checks_are}
@@ -43,7 +43,7 @@ use Rattle.asn1_rs.specs.Laws.Words.{strict_ber}
 module _ {T W D : Type 0} (class number : ℕ) (inner : W → T) (view : T → D) (allocates : Bool)
     (reads : List ℕ → Reading T → Type 0) (once : IsOneReader view allocates reads) where
   -- by BER: the conversion of the element
-  takes_once : IsOneConversion (λ w. view (inner w)) allocates (ExplicitTakes class number inner reads Same)
+  takes_once : IsOneConversion (λ w. view (inner w)) allocates (ExplicitConverts class number inner reads Same)
   takes_once p (Ok v) (Ok w) (tag, (rest, is)) (also, (tail, too)) =
       (once p.content (Ok (rest, inner v)) (Ok (tail, inner w)) is too).0
   takes_once p (Ok v) (Err f) (tag, given) (inl (e, other, same)) =
@@ -66,10 +66,10 @@ module _ {T W D : Type 0} (class number : ℕ) (inner : W → T) (view : T → D
       flattened_same allocates q r e f (once p.content (Err q) (Err r) is too) flat level
 
   explicit_by_ber : IsOneReader (λ w. view (inner w)) allocates
-      (BerGives (OfParts (ExplicitTakes class number inner reads Same)) Same)
+      (BerGives (OfParts (ExplicitConverts class number inner reads Same)) Same)
   explicit_by_ber = one_element (IsElement max_depth) (ElementFault max_depth) EndsWithin ber_elements ber_violation
-      (λ w. view (inner w)) allocates (OfParts (ExplicitTakes class number inner reads Same))
-      (one_by_parts (λ w. view (inner w)) allocates (ExplicitTakes class number inner reads Same) takes_once)
+      (λ w. view (inner w)) allocates (OfParts (ExplicitConverts class number inner reads Same))
+      (one_by_parts (λ w. view (inner w)) allocates (ExplicitConverts class number inner reads Same) takes_once)
 
   -- by DER: what reading the value that the contents octets are answers, that in the element, and the reader itself
   abbrev Whole : List ℕ → Result T (Refusal Error) → Type 0
@@ -137,7 +137,7 @@ module _ {T W D : Type 0} (class number : ℕ) (inner : W → T) (view : T → D
 
   -- two elements at the front of the same octets are one
   in_one_element : (octets rest tail : List ℕ) (p o : Parts) (a b : Result T (Refusal Error)) →
-      Front IsDerElement octets p rest → Front IsDerElement octets o tail → ReadsIn p a → ReadsIn o b →
+      HasPrefix IsDerElement octets p rest → HasPrefix IsDerElement octets o tail → ReadsIn p a → ReadsIn o b →
       SameReading (λ x y. view x ≡ view y) allocates (alone a) (alone b)
   in_one_element octets rest tail p o a b f g is too = reads_once p a b is (subst (λ (q : Parts). ReadsIn q b)
       (same_parts IsDerElement DerElementFault IsTruncatedIdentifier der_elements octets rest tail p o f g) too)
@@ -190,7 +190,7 @@ module _ {T W D : Type 0} (class number : ℕ) (inner : W → T) (own : Tag) (vi
   moved a b x same = subst (λ (p : Parts). implicit_checks class number p x) same
 
   pub implicit_takes_once : IsOneTaking (λ w. view (inner w)) allocates
-      (ImplicitTakes class number inner own convert Same)
+      (ImplicitConverts class number inner own convert Same)
   implicit_takes_once a b (Ok v) (Ok w) same (tag, (c, one, is)) (also, (d, other, too)) =
       once c d (Ok (inner v)) (Ok (inner w)) (same_under a b c d same one other) is too
   implicit_takes_once a b (Ok v) (Err f) same (tag, given) (inl (e, broken, told)) =
@@ -222,8 +222,8 @@ module _ (number : ℕ) (I : Item) (one : IsOneItem I) where
   unfolding view_of
   taken = implicit_takes_once 2 number (λ (t : Tagged). t.inner) (record { 0 = 16 })
       (λ (v : Vec I.T Global). map one.view v.items) true
-      (OfParts (ListTakes (IsListOr 16) has_items I.ber_gives Same))
-      (one_by_parts (λ v. map one.view v.items) true (ListTakes (IsListOr 16) has_items I.ber_gives Same)
+      (OfParts (ListConverts (IsListOr 16) has_items I.ber_gives Same))
+      (one_by_parts (λ v. map one.view v.items) true (ListConverts (IsListOr 16) has_items I.ber_gives Same)
       (list_takes_once one.view I.grammar.allocates I.ber_gives one.ber (λ v. map one.view v.items) has_items
       (λ xs ys v w e h k. ap (map one.view) h ∙ e ∙ sym (ap (map one.view) k)) (IsListOr 16) (is_list_or_is 16)))
 

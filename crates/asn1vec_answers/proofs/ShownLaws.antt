@@ -13,7 +13,7 @@ use Rattle.asn1_headers.specs.Error.{written_refusal}
 use Rattle.asn1_headers.specs.Class.{class_number}
 use Rattle.asn1_rs.specs.Any.Value.{element_of, ElementForm}
 use Rattle.asn1_headers.specs.Header.{identifier_of}
-use Rattle.asn1_rs.specs.Grammar.Form.{FitsElement, HasForm, IsStrict, WritesForm, universal}
+use Rattle.asn1_rs.specs.Grammar.Form.{FitsElement, HasForm, IsStrict, WritesForm, of_universal_class}
 use Rattle.asn1_rs.specs.Laws.Forms.{strict_made, strict_written}
 use Rattle.x690.specs.Laws.StrictLengths.{length_fits}
 use Rattle.asn1_headers.specs.Writer.{MayRefuse, WriterState}
@@ -167,7 +167,7 @@ module _ {S V : Type 0} (value : S → V) (IsDer : V → Type 0) (Form : V → I
 pub strict_number : (Holds : ℤ → Type 0) (n : ℤ) (octets : List ℕ) → Holds n → IsIntegerContent n octets →
     length octets < 2 ^ 64 → (o : List ℕ) × IsStrict (IntegerForm Holds) n o
 strict_number Holds n octets held content few =
-    let id = universal false integer_number in (
+    let id = of_universal_class false integer_number in (
       element_octets id octets,
       record {
         id = id;

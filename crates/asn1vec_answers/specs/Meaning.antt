@@ -4,7 +4,7 @@ use Rattle.x690.specs.Rules.{Rule as HeaderRule, ber_rule, der_rule}
 use Rattle.asn1_rs.specs.Optional.{IsLeftOut, OptionGives}
 use Rattle.asn1vec_answers.specs.declared.request.Rule.{Rule}
 use Rattle.asn1vec_answers.specs.declared.request.Rule.TheVariants.{Ber as ber, Der as der}
-use Rattle.asn1vec_answers.specs.Shown.{Encoding, HeldEncoding, Reading, ReadsByBer, ReadsByDer, option_text}
+use Rattle.asn1vec_answers.specs.Shown.{Encoding, EncodingOfSome, Reading, ReadingByBer, ReadingByDer, option_text}
 
 -- The data of a name.
 -- These facts of a name change nothing of what an answer is. The name is read by one rule, has no writer, or has no
@@ -37,8 +37,8 @@ is_der der = true
 -- read by either rule
 abbrev pub ReadsByEither : {T V : Type 0} → (Ber Der : List ℕ → V → Type 0) → (T → V) → Bool →
     (ber_gives der_gives : List ℕ → Reading T → Type 0) → Rule → List ℕ → Reading T → Type 0
-ReadsByEither Ber Der value allocates ber_gives der_gives ber = ReadsByBer Ber value allocates ber_gives
-ReadsByEither Ber Der value allocates ber_gives der_gives der = ReadsByDer Der value allocates der_gives
+ReadsByEither Ber Der value allocates ber_gives der_gives ber = ReadingByBer Ber value allocates ber_gives
+ReadsByEither Ber Der value allocates ber_gives der_gives der = ReadingByDer Der value allocates der_gives
 
 -- how a rule reads headers
 abbrev pub headers_by : Rule → HeaderRule
@@ -58,7 +58,7 @@ optional number m = record {
   is_there = m.is_there;
   Reads = ReadsOptional number m.Reads;
   text_of = option_text m.text_of;
-  Encodes = HeldEncoding m.writing_allocates m.Encodes;
+  Encodes = EncodingOfSome m.writing_allocates m.Encodes;
   reading_allocates = m.reading_allocates;
   writing_allocates = m.writing_allocates;
 }

@@ -14,15 +14,15 @@ IsDigit d c =
     (d < 16) × ((c ≡ slice_index (codes "0123456789abcdef") d) ⊎ (c ≡ slice_index (codes "0123456789ABCDEF") d))
 
 -- two digits for each octet, first that of its high four bits
-abbrev pub IsHexadecimal : List ℕ → List ℕ → Type 0
-IsHexadecimal [] digits = digits ≡ []
-IsHexadecimal (octet ∷ octets) digits = (high low : ℕ) × (rest : List ℕ) × IsDigit (octet / 16) high ×
-    IsDigit (octet % 16) low × IsHexadecimal octets rest × (digits ≡ high ∷ low ∷ rest)
+abbrev pub AreHexadecimalDigits : List ℕ → List ℕ → Type 0
+AreHexadecimalDigits [] digits = digits ≡ []
+AreHexadecimalDigits (octet ∷ octets) digits = (high low : ℕ) × (rest : List ℕ) × IsDigit (octet / 16) high ×
+    IsDigit (octet % 16) low × AreHexadecimalDigits octets rest × (digits ≡ high ∷ low ∷ rest)
 
 -- `-` for no octets, else hexadecimal digits
 abbrev pub StandsFor : List ℕ → List ℕ → Type 0
 StandsFor [] digits = digits ≡ codes "-"
-StandsFor (octet ∷ octets) digits = IsHexadecimal (octet ∷ octets) digits
+StandsFor (octet ∷ octets) digits = AreHexadecimalDigits (octet ∷ octets) digits
 
 -- The line has the form, and these are its parts. Every line is known to have no 0a. A name is any octets but spaces.
 -- So a carriage return belongs to the name, or makes the digits wrong.

@@ -36,18 +36,18 @@ letter_of true = codes "c"
 letter_of false = codes "p"
 
 -- a bit string: the number of its unused bits, and the octets that have its bits
-abbrev pub bits_text : Bits → List ℕ
-bits_text v = decimal v.unused ++ (codes ":" ++ in_hexadecimal v.octets)
+abbrev pub bit_string_text : Bits → List ℕ
+bit_string_text v = decimal v.unused ++ (codes ":" ++ in_hexadecimal v.octets)
 
 -- a truth value
-abbrev pub truth_text : Bool → List ℕ
-truth_text true = codes "true"
-truth_text false = codes "false"
+abbrev pub boolean_text : Bool → List ℕ
+boolean_text true = codes "true"
+boolean_text false = codes "false"
 
 -- the number of the class, the letter of the form, the tag number and the contents octets, joined
 -- by points
-abbrev pub element_text : ElementValue → List ℕ
-element_text v =
+abbrev pub any_text : ElementValue → List ℕ
+any_text v =
     decimal v.id.class ++ (codes "." ++ (letter_of v.id.constructed ++ (codes "." ++
     (decimal v.id.number ++ (codes "." ++ in_hexadecimal v.content)))))
 
@@ -57,18 +57,18 @@ text_or_dash [] text = codes "-"
 text_or_dash (octet ∷ octets) text = text
 
 -- an object identifier: its arcs, or its octets where one is 2^64 or more; `-` for no octets
-abbrev pub identifier_text : OidValue → List ℕ
-identifier_text v = text_or_dash v.octets (shown_text v.relative v.octets)
+abbrev pub oid_text : OidValue → List ℕ
+oid_text v = text_or_dash v.octets (shown_text v.relative v.octets)
 
 -- How the syntaxes of an embedded presentation data value are identified. A word tells in which way. Behind it stand
 -- identifiers, the contents octets of an integer, or nothing.
 abbrev pub identification_text : Identification → List ℕ
 identification_text (syntaxes first second) =
-    codes "syntaxes:" ++ (identifier_text first ++ (codes ":" ++ identifier_text second))
-identification_text (syntax s) = codes "syntax:" ++ identifier_text s
+    codes "syntaxes:" ++ (oid_text first ++ (codes ":" ++ oid_text second))
+identification_text (syntax s) = codes "syntax:" ++ oid_text s
 identification_text (context id) = codes "context:" ++ in_hexadecimal id
-identification_text (negotiation id s) = codes "negotiation:" ++ (in_hexadecimal id ++ (codes ":" ++ identifier_text s))
-identification_text (transfer s) = codes "transfer:" ++ identifier_text s
+identification_text (negotiation id s) = codes "negotiation:" ++ (in_hexadecimal id ++ (codes ":" ++ oid_text s))
+identification_text (transfer s) = codes "transfer:" ++ oid_text s
 identification_text fixed = codes "fixed"
 
 -- that, a stroke, and the octets of the data value
@@ -80,26 +80,26 @@ abbrev pub list_text : {T : Type 0} → (T → List ℕ) → List T → List ℕ
 list_text text_of items = codes "[" ++ (join_by text_of (codes ",") items ++ codes "]")
 
 -- what is written of an element of any type: its strict encoding
-abbrev pub value_text : ElementValue → List ℕ
-value_text v = in_hexadecimal (element_octets v.id v.content)
+abbrev pub any_encoding_text : ElementValue → List ℕ
+any_encoding_text v = in_hexadecimal (element_octets v.id v.content)
 
 -- an attribute of a name of X.509: its identifier, `=`, and what is written of its value
 abbrev pub attribute_text : AttributeValue → List ℕ
-attribute_text v = identifier_text v.oid ++ (codes "=" ++ value_text v.value)
+attribute_text v = oid_text v.oid ++ (codes "=" ++ any_encoding_text v.value)
 
 -- a relative name: its attributes in this order, joined by `+`
 abbrev pub relative_name_text : List AttributeValue → List ℕ
 relative_name_text attributes = join_by attribute_text (codes "+") attributes
 
 -- a name: its relative names, joined by `/`; `-` for none
-abbrev pub name_text : List (List AttributeValue) → List ℕ
-name_text [] = codes "-"
-name_text (row ∷ rows) = join_by relative_name_text (codes "/") (row ∷ rows)
+abbrev pub distinguished_name_text : List (List AttributeValue) → List ℕ
+distinguished_name_text [] = codes "-"
+distinguished_name_text (row ∷ rows) = join_by relative_name_text (codes "/") (row ∷ rows)
 
 -- the keys in ascending order, each once
-abbrev pub in_order : {K : Type 0} → (K → K → Ordering) → List K → List K
-in_order cmp [] = []
-in_order cmp (k ∷ ks) = insert_key cmp (in_order cmp ks) k
+abbrev pub sorted_keys : {K : Type 0} → (K → K → Ordering) → List K → List K
+sorted_keys cmp [] = []
+sorted_keys cmp (k ∷ ks) = insert_key cmp (sorted_keys cmp ks) k
 
 -- `none`, or `some` and what is held
 abbrev pub option_text : {T : Type 0} → (T → List ℕ) → Option T → List ℕ
@@ -150,15 +150,15 @@ abbrev pub Same : Error → Error → Type 0
 Same e f = f ≡ e
 
 -- by BER: what is exact by the grammar, and what the reader gives
-abbrev pub ReadsByBer : {T V : Type 0} → (List ℕ → V → Type 0) → (T → V) → Bool → (List ℕ → Reading T → Type 0) →
+abbrev pub ReadingByBer : {T V : Type 0} → (List ℕ → V → Type 0) → (T → V) → Bool → (List ℕ → Reading T → Type 0) →
     List ℕ → Reading T → Type 0
-ReadsByBer Ber value allocates gives octets answer =
+ReadingByBer Ber value allocates gives octets answer =
     Exactly EndsWithin Ber value (TellsMemory allocates Same) octets answer × gives octets answer
 
 -- the same by DER
-abbrev pub ReadsByDer : {T V : Type 0} → (List ℕ → V → Type 0) → (T → V) → Bool → (List ℕ → Reading T → Type 0) →
+abbrev pub ReadingByDer : {T V : Type 0} → (List ℕ → V → Type 0) → (T → V) → Bool → (List ℕ → Reading T → Type 0) →
     List ℕ → Reading T → Type 0
-ReadsByDer Der value allocates gives octets answer =
+ReadingByDer Der value allocates gives octets answer =
     Exactly IsTruncatedIdentifier Der value (TellsMemory allocates Same) octets answer × gives octets answer
 
 -- these octets, of a length that 64 bits hold, or why writing them was refused
@@ -194,9 +194,9 @@ StrictEncodingIfAny Form allocates v encoding =
     (((octets : List ℕ) → ¬ IsStrict Form v octets) × IsUnwritten allocates encoding)
 
 -- the encoding of what is held, or no octets
-abbrev pub HeldEncoding : {T : Type 0} → Bool → (T → Encoding → Type 0) → Option T → Encoding → Type 0
-HeldEncoding allocates Encodes None encoding = IsWritten allocates [] encoding
-HeldEncoding allocates Encodes (Some x) encoding = Encodes x encoding
+abbrev pub EncodingOfSome : {T : Type 0} → Bool → (T → Encoding → Type 0) → Option T → Encoding → Type 0
+EncodingOfSome allocates Encodes None encoding = IsWritten allocates [] encoding
+EncodingOfSome allocates Encodes (Some x) encoding = Encodes x encoding
 
 -- What functions on the way say.
 

@@ -23,8 +23,8 @@ use Rattle.asn1_rs.specs.BitString.{bit_string_leaf}
 use Rattle.asn1_rs.specs.Boolean.{bool_leaf}
 use Rattle.asn1_rs.specs.EndOfContent.{end_leaf}
 use Rattle.asn1_rs.specs.Enumerated.{enumerated_leaf}
-use Rattle.asn1_rs.specs.Integer.Octets.{any_integer_leaf, octets_held}
-use Rattle.asn1_rs.specs.Leaf.{Leaf, LeafBody, LeafGives, LeafTakes, LendsContent, leaf_element}
+use Rattle.asn1_rs.specs.Integer.Octets.{any_integer_leaf, content_slice}
+use Rattle.asn1_rs.specs.Leaf.{Leaf, LeafBody, LeafGives, LeafConverts, LendsContent, leaf_element}
 use Rattle.asn1_rs.specs.declared.asn1_types.set.set_of.SetOf.{SetOf}
 use Rattle.asn1_rs.specs.Set.{HasItems, ascends, is_other, items_of, member_grammar, multiset_grammar}
 use Rattle.asn1_rs.specs.Null.{null_leaf}
@@ -51,8 +51,8 @@ use Rattle.asn1_rs.specs.Times.{utc_time_leaf, utc_time_refused, generalized_tim
 use Rattle.asn1_rs.specs.declared.asn1_types.tagged.Explicit.{Explicit}
 use Rattle.asn1_rs.specs.declared.asn1_types.tagged.Implicit.{Implicit}
 use Rattle.asn1_rs.specs.declared.asn1_types.tagged.TaggedValue.{TaggedValue}
-use Rattle.asn1_rs.specs.Tagged.Explicit.{ExplicitGives, ExplicitTakes, explicit_grammar}
-use Rattle.asn1_rs.specs.Tagged.Implicit.{ImplicitTakes, implicit_grammar}
+use Rattle.asn1_rs.specs.Tagged.Explicit.{ExplicitGives, ExplicitConverts, explicit_grammar}
+use Rattle.asn1_rs.specs.Tagged.Implicit.{ImplicitConverts, implicit_grammar}
 use Rattle.asn1_rs.specs.Kept.{sequence_leaf, set_leaf}
 use Rattle.asn1_rs.specs.declared.asn1_types.sequence.sequence_of.SequenceOf.{SequenceOf}
 use Rattle.asn1_rs.specs.Sequence.SequenceOf.{IsSequenceOf, sequence_items}
@@ -60,7 +60,7 @@ use Rattle.std.specs.declared.borrow.CowSlice.{CowSlice}
 use Rattle.asn1_rs.specs.Any.{IsTheElement, IsDefiniteOr}
 use Rattle.asn1_rs.specs.Traits.{OfParts, BerGives, DerGives, PassesAll}
 use Rattle.asn1_rs.specs.Checks.{has_number}
-use Rattle.asn1_rs.specs.Lists.{IsListOr, ListTakes, has_items as IsMadeOf, list_grammar}
+use Rattle.asn1_rs.specs.Lists.{IsListOr, ListConverts, has_items as IsMadeOf, list_grammar}
 use Rattle.asn1_rs.specs.Kinds.{item_grammar}
 use Rattle.asn1_rs.specs.Grammar.Item.{ItemGrammar, ber_words}
 use Rattle.asn1_rs.specs.Any.Value.{element_of, ElementBody, ElementCheck, ElementForm}
@@ -82,10 +82,11 @@ use Rattle.asn1vec_answers.specs.declared.types.TypeName.TheVariants.{Numeric, P
 use Rattle.asn1vec_answers.specs.declared.types.TypeName.TheVariants.{Graphic, Visible, General, Descriptor, Universal}
 use Rattle.asn1vec_answers.specs.declared.types.TypeName.TheVariants.{Bmp, UtcTime, GenTime, Pdv, X509Name}
 use Rattle.asn1vec_answers.specs.Meaning.{Meaning, ReadsByEither, is_ber, is_der, optional}
-use Rattle.asn1vec_answers.specs.Shown.{CameOfWriting, Encoding, IsReadAnswer, IsWritten, IsWrittenUnless, ReadsByBer}
-use Rattle.asn1vec_answers.specs.Shown.{ReadsByDer, Reading, Same}
-use Rattle.asn1vec_answers.specs.Shown.{StrictEncoding, StrictEncodingIfAny, bits_text, element_text, identifier_text}
-use Rattle.asn1vec_answers.specs.Shown.{in_hexadecimal, in_order, list_text, name_text, pdv_text, truth_text}
+use Rattle.asn1vec_answers.specs.Shown.{CameOfWriting, Encoding, IsReadAnswer, IsWritten, IsWrittenUnless, ReadingByBer}
+use Rattle.asn1vec_answers.specs.Shown.{ReadingByDer, Reading, Same}
+use Rattle.asn1vec_answers.specs.Shown.{StrictEncoding, StrictEncodingIfAny, bit_string_text, any_text, oid_text}
+use Rattle.asn1vec_answers.specs.Shown.{in_hexadecimal, sorted_keys, list_text, distinguished_name_text, pdv_text}
+use Rattle.asn1vec_answers.specs.Shown.{boolean_text}
 
 -- the name of a type as a line has it
 abbrev pub name_of_type : TypeName → List ℕ
@@ -160,8 +161,8 @@ abbrev pub unsigned : ℕ → Meaning
 unsigned size = integers {T = ℕ} pos (IsUnsigned size) (UnsignedRefuses size)
 
 -- and the signed ones
-abbrev pub signed : ℕ → Meaning
-signed size = integers {T = ℤ} (λ n. n) (IsSigned size) (SignedRefuses size)
+abbrev pub signed_integers : ℕ → Meaning
+signed_integers size = integers {T = ℤ} (λ n. n) (IsSigned size) (SignedRefuses size)
 
 -- Elements of any type, which are there by either rule. Each is shown by what it says, and with its strict encoding.
 abbrev pub elements : Meaning
@@ -170,7 +171,7 @@ elements = record {
   is_there = λ rule. true;
   Reads = ReadsByEither (BerWord ElementBody) (DerWord ElementCheck ElementBody) element_of false
       (BerGives IsTheElement Same) (DerGives IsDefiniteOr IsTheElement Same);
-  text_of = λ a. element_text (element_of a);
+  text_of = λ a. any_text (element_of a);
   Encodes = λ a. StrictEncoding ElementForm false (element_of a);
   reading_allocates = false;
   writing_allocates = false;
@@ -209,7 +210,7 @@ lent_leaf L content = leaf_by false L (LendsContent L content) (LeafEncoding L)
 
 -- one that copies what it answers
 abbrev pub copying_leaf : {T : Type 0} (L : Leaf T) → (L.Value → List ℕ) → Meaning
-copying_leaf L = leaf_by true L (OfParts (LeafTakes L)) (LeafEncoding L)
+copying_leaf L = leaf_by true L (OfParts (LeafConverts L)) (LeafEncoding L)
 
 -- one some of whose values are refused in writing for what they are, with this refusal
 abbrev pub refusing_leaf : {T : Type 0} (L : Leaf T) → (L.Value → Truth) → Error → (L.Value → List ℕ) → Meaning
@@ -238,7 +239,7 @@ identifiers = record {
   is_there = λ rule. true;
   Reads = ReadsByEither (BerWord oid_element.Body) (DerWord oid_element.Check oid_element.Body) oid_value false
       (BerGives OidGives Same) (DerGives oid_constraints OidGives Same);
-  text_of = λ x. identifier_text (oid_value x);
+  text_of = λ x. oid_text (oid_value x);
   Encodes = λ x. IsWritten false (oid_header x ++ oid_octets x);
   reading_allocates = false;
   writing_allocates = false;
@@ -263,7 +264,7 @@ ends = record {
   T = EndOfContent;
   is_there = λ rule. is_ber rule;
   Reads = λ rule.
-      ReadsByBer (BerWord (LeafBody end_leaf)) end_leaf.value false (BerGives (OfParts (LeafGives end_leaf)) Same);
+      ReadingByBer (BerWord (LeafBody end_leaf)) end_leaf.value false (BerGives (OfParts (LeafGives end_leaf)) Same);
   text_of = λ x. codes "eoc";
   Encodes = λ x encoding. encoding ≡ None;
   reading_allocates = false;
@@ -313,8 +314,8 @@ abbrev pub sequence : {W : Type 0} (I : Item) → (W → List I.T) → (List I.T
 sequence {W} I items holds = record {
   T = W;
   grammar = list_grammar 16 items I.grammar;
-  ber_gives = BerGives (OfParts (ListTakes (IsListOr 16) holds I.ber_gives Same)) Same;
-  der_gives = DerGives PassesAll (OfParts (ListTakes (has_number 16) holds I.der_gives Same)) Same;
+  ber_gives = BerGives (OfParts (ListConverts (IsListOr 16) holds I.ber_gives Same)) Same;
+  der_gives = DerGives PassesAll (OfParts (ListConverts (has_number 16) holds I.der_gives Same)) Same;
   text_of = λ s. list_text I.text_of (items s);
 }
 
@@ -332,8 +333,8 @@ abbrev pub unordered_set : Item → Item
 unordered_set I = record {
   T = SetOf I.T;
   grammar = multiset_grammar items_of I.grammar;
-  ber_gives = BerGives (OfParts (ListTakes (IsListOr 17) HasItems I.ber_gives Same)) Same;
-  der_gives = DerGives PassesAll (OfParts (ListTakes (has_number 17) HasItems I.der_gives Same)) Same;
+  ber_gives = BerGives (OfParts (ListConverts (IsListOr 17) HasItems I.ber_gives Same)) Same;
+  der_gives = DerGives PassesAll (OfParts (ListConverts (has_number 17) HasItems I.der_gives Same)) Same;
   text_of = λ s. list_text I.text_of (items_of s);
 }
 
@@ -343,9 +344,9 @@ ordered_set I cmp eq = record {
   T = BTreeSet I.T;
   grammar = member_grammar (ascends cmp eq) (λ s. s.keys) I.grammar;
   ber_gives =
-      BerGives (OfParts (ListTakes (IsListOr 17) (λ items s. IsFromIterResult cmp items s) I.ber_gives Same)) Same;
+      BerGives (OfParts (ListConverts (IsListOr 17) (λ items s. IsFromIterResult cmp items s) I.ber_gives Same)) Same;
   der_gives = DerGives PassesAll
-      (OfParts (ListTakes (IsListOr 17) (λ items s. IsFromIterResult cmp items s) I.der_gives Same)) Same;
+      (OfParts (ListConverts (IsListOr 17) (λ items s. IsFromIterResult cmp items s) I.der_gives Same)) Same;
   text_of = λ s. list_text I.text_of s.keys;
 }
 
@@ -355,10 +356,10 @@ hashed_set I cmp = record {
   T = HashSet I.T (BuildHasherDefault FoldHasher);
   grammar = member_grammar (is_other (eq_by_cmp cmp)) (λ s. s.keys) I.grammar;
   ber_gives = BerGives
-      (OfParts (ListTakes (IsListOr 17) (λ items s. IsHashedOf (eq_by_cmp cmp) items s) I.ber_gives Same)) Same;
+      (OfParts (ListConverts (IsListOr 17) (λ items s. IsHashedOf (eq_by_cmp cmp) items s) I.ber_gives Same)) Same;
   der_gives = DerGives PassesAll
-      (OfParts (ListTakes (IsListOr 17) (λ items s. IsHashedOf (eq_by_cmp cmp) items s) I.der_gives Same)) Same;
-  text_of = λ s. list_text I.text_of (in_order cmp s.keys);
+      (OfParts (ListConverts (IsListOr 17) (λ items s. IsHashedOf (eq_by_cmp cmp) items s) I.der_gives Same)) Same;
+  text_of = λ s. list_text I.text_of (sorted_keys cmp s.keys);
 }
 
 -- values under an explicit, context-specific tag of this number: shown as without it
@@ -366,7 +367,7 @@ abbrev pub explicit : ℕ → Item → Item
 explicit number I = record {
   T = TaggedValue I.T Error Explicit 2 number;
   grammar = explicit_grammar 2 number (λ t. t.inner) I.grammar;
-  ber_gives = BerGives (OfParts (ExplicitTakes 2 number (λ t. t.inner) I.ber_gives Same)) Same;
+  ber_gives = BerGives (OfParts (ExplicitConverts 2 number (λ t. t.inner) I.ber_gives Same)) Same;
   der_gives = ExplicitGives 2 number (λ t. t.inner) I.der_gives Same;
   text_of = λ t. I.text_of t.inner;
 }
@@ -375,8 +376,8 @@ explicit number I = record {
 abbrev pub implicit_vector_takes : (number : ℕ) (I : Item) → AnyElement →
     Result (TaggedValue (Vec I.T Global) Error Implicit 2 number) Error → Type 0
 implicit_vector_takes number I =
-    ImplicitTakes 2 number (λ t. t.inner) (record { 0 = 16 })
-    (OfParts (ListTakes (IsListOr 16) IsMadeOf I.ber_gives Same)) Same
+    ImplicitConverts 2 number (λ t. t.inner) (record { 0 = 16 })
+    (OfParts (ListConverts (IsListOr 16) IsMadeOf I.ber_gives Same)) Same
 
 -- vectors of items under an implicit tag
 abbrev pub implicit_vector : ℕ → Item → Item
@@ -412,8 +413,8 @@ abbrev pub names : Meaning
 names = record {
   T = Name;
   is_there = λ rule. is_der rule;
-  Reads = λ rule. ReadsByDer name_item.Der name_value true NameGives;
-  text_of = λ n. name_text (rows_of n);
+  Reads = λ rule. ReadingByDer name_item.Der name_value true NameGives;
+  text_of = λ n. distinguished_name_text (rows_of n);
   Encodes = λ n. CameOfWriting true (name_octets n) (whole_refuses name_writing n);
   reading_allocates = true;
   writing_allocates = true;
@@ -426,22 +427,22 @@ meaning_of U16 = unsigned 2
 meaning_of U32 = unsigned 4
 meaning_of U64 = unsigned 8
 meaning_of U128 = unsigned 16
-meaning_of I8 = signed 1
-meaning_of I16 = signed 2
-meaning_of I32 = signed 4
-meaning_of I64 = signed 8
-meaning_of I128 = signed 16
+meaning_of I8 = signed_integers 1
+meaning_of I16 = signed_integers 2
+meaning_of I32 = signed_integers 4
+meaning_of I64 = signed_integers 8
+meaning_of I128 = signed_integers 16
 meaning_of Any = elements
-meaning_of Bool = leaf bool_leaf truth_text
+meaning_of Bool = leaf bool_leaf boolean_text
 meaning_of Null = leaf null_leaf (λ v. codes "null")
 meaning_of Enumerated = leaf enumerated_leaf decimal
-meaning_of Integer = lent_leaf any_integer_leaf octets_held in_hexadecimal
+meaning_of Integer = lent_leaf any_integer_leaf content_slice in_hexadecimal
 meaning_of Octets = lent_leaf octet_string_leaf cow_of in_hexadecimal
-meaning_of Bits = lent_leaf bit_string_leaf (λ x. x.content) bits_text
+meaning_of Bits = lent_leaf bit_string_leaf (λ x. x.content) bit_string_text
 meaning_of Eoc = ends
 meaning_of VecU8 = alone false (vector (unsigned_item 1))
 meaning_of VecU32 = alone false (vector (unsigned_item 4))
-meaning_of VecBool = alone false (vector (leaf_item bool_leaf truth_text))
+meaning_of VecBool = alone false (vector (leaf_item bool_leaf boolean_text))
 meaning_of VecVecU8 = alone false (vector (vector (unsigned_item 1)))
 meaning_of SetOfU8 = collection (unordered_set (unsigned_item 1))
 meaning_of BTreeSetU8 = collection (ordered_set (unsigned_item 1) nat_cmp nat_eq)

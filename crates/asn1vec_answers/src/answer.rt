@@ -8,7 +8,7 @@ ghost use Rattle.std.specs.Ordering.{eq_by_cmp, int_cmp};
 ghost use Rattle.asn1vec_answers.specs.declared.types.TypeName.TheVariants.{BTreeSetU8, HashSetI8};
 ghost use Rattle.asn1vec_answers.specs.Answer.{IsAnswer, IsAnswerLine, IsRequestAnswer};
 ghost use Rattle.asn1vec_answers.specs.Memory.{AreAlike, AsksForNoneThatAllocates, TakesNoMemory};
-ghost use Rattle.asn1vec_answers.specs.Shown.{Gains, HeldEncoding, IsReadAnswer, in_order, list_text, option_text};
+ghost use Rattle.asn1vec_answers.specs.Shown.{Gains, EncodingOfSome, IsReadAnswer, sorted_keys, list_text, option_text};
 ghost use Rattle.asn1vec_answers.specs.Meaning.{ReadsByEither, ReadsOptional};
 ghost use Rattle.asn1vec_answers.specs.Types.{IsTypeAnswer, meaning_of};
 ghost use Rattle.asn1_rs.specs.Prelude.{ber_words, whole_allocates};
@@ -52,7 +52,7 @@ where
         (ReadsByEither (ber_words T.grammar) T.grammar.Der T.grammar.value T.grammar.allocates
         T.ber_gives
         T.der_gives) rule) (option_text T.text_of)
-        (HeldEncoding (whole_allocates T.writing)
+        (EncodingOfSome (whole_allocates T.writing)
         T.Encodes) octets.now)) }
 {
     match rule {
@@ -193,9 +193,9 @@ pub fn members_ascend()
         × IsStrictlyIncreasing members.keys }
     ensures hashed { (members : (meaning_of HashSetI8).T)
         → (meaning_of HashSetI8).text_of members ≡
-        list_text signed_decimal (in_order int_cmp members.keys) }
-    ensures in_order { (keys : List ℤ) → IsStrictlySortedBy int_cmp (in_order int_cmp keys)
-        × ((key : ℤ) → is_member (eq_by_cmp int_cmp) (in_order int_cmp keys) key ≡
+        list_text signed_decimal (sorted_keys int_cmp members.keys) }
+    ensures in_order { (keys : List ℤ) → IsStrictlySortedBy int_cmp (sorted_keys int_cmp keys)
+        × ((key : ℤ) → is_member (eq_by_cmp int_cmp) (sorted_keys int_cmp keys) key ≡
         is_member (eq_by_cmp int_cmp) keys key) }
 {}
 

@@ -2,7 +2,7 @@
 ghost use Rattle.std.specs.Prelude.{◌≡◌, ◌<◌, ◌^◌, false, length};
 ghost use Rattle.asn1_rs.specs.Prelude.{class_number, IsOctets};
 ghost use Rattle.asn1_rs.specs.Any.Value.{element_of, ElementForm};
-ghost use Rattle.asn1vec_answers.specs.Shown.{StrictEncoding, element_text, letter_of};
+ghost use Rattle.asn1vec_answers.specs.Shown.{StrictEncoding, any_text, letter_of};
 
 use crate::shown::Encoded;
 use crate::text::{push_hexadecimal, push_number, push_str};
@@ -30,7 +30,7 @@ fn are_octets(octets: &[u8])
 {}
 
 impl Encoded for Any<'_> {
-    ghost text_of = { λ a. element_text (element_of a) };
+    ghost text_of = { λ a. any_text (element_of a) };
 
     ghost Encodes = { λ a. StrictEncoding ElementForm false (element_of a) };
 

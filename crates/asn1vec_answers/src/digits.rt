@@ -1,6 +1,6 @@
 //! How hexadecimal digits are read.
 ghost use Rattle.std.specs.Prelude.{◌≡◌, ◌<◌, ◌*◌, ℕ, List, length, IsTrue, false};
-ghost use Rattle.asn1vec_answers.specs.Request.{IsDigit, IsHexadecimal};
+ghost use Rattle.asn1vec_answers.specs.Request.{IsDigit, AreHexadecimalDigits};
 
 /// The number of each octet as a digit, in either case, or 255.
 const NUMBERS: [u8; 256] = [
@@ -32,8 +32,8 @@ fn number_of(digit: u8) -> u8
 /// Fills octets from two digits for each, and answers whether these are digits.
 pub(crate) fn fill(digits: &[u8], octets: &mut [u8]) -> bool
     requires { length digits.now ≡ 2 * length octets.old }
-    ensures found { IsTrue result → IsHexadecimal octets.new digits.now }
-    ensures none { result ≡ false → (octets : List ℕ) → ¬ IsHexadecimal octets digits.now }
+    ensures found { IsTrue result → AreHexadecimalDigits octets.new digits.now }
+    ensures none { result ≡ false → (octets : List ℕ) → ¬ AreHexadecimalDigits octets digits.now }
 {
     'pairs: for i in 0..octets.len() {
         let high = number_of(digits[2 * i]);

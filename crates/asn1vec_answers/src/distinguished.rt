@@ -3,7 +3,8 @@
 ghost use Rattle.std.specs.Prelude.{◌≡◌, ◌++◌, OnOk};
 ghost use Rattle.asn1_rs.specs.Any.Value.{element_of};
 ghost use Rattle.asn1_rs.specs.Prelude.{whole_allocates, whole_octets, whole_refuses};
-ghost use Rattle.asn1vec_answers.specs.Shown.{CameOfWriting, attribute_text, name_text, relative_name_text, value_text};
+ghost use Rattle.asn1vec_answers.specs.Shown.{CameOfWriting, attribute_text, distinguished_name_text};
+ghost use Rattle.asn1vec_answers.specs.Shown.{relative_name_text, any_encoding_text};
 ghost use Rattle.x509_name.specs.Attribute.{attribute_value};
 ghost use Rattle.x509_name.specs.Name.{rows_of};
 ghost use Rattle.x509_name.specs.RelativeName.{listed_values};
@@ -18,7 +19,8 @@ use x509_name::{AttributeTypeAndValue, Name, RelativeDistinguishedName};
 /// Appends what is written of the value of an attribute, in digits.
 // The memory is the engine's own: where it is refused, the run ends.
 fn push_element(text: &mut Vec<u8>, value: &Any<'_>) -> Result<(), AllocError>
-    ensures { OnOk result (text.new.items ≡ text.old.items ++ value_text (element_of value.now)) }
+    ensures { OnOk result (text.new.items ≡ text.old.items ++
+        any_encoding_text (element_of value.now)) }
 {
     match strict_vec(*text.allocator(), value) {
         Ok(octets) => push_hexadecimal(text, octets.as_slice()),
@@ -59,7 +61,7 @@ impl Encoded for RelativeDistinguishedName<'_> {
 /// Its relative names, in their order, `-` for none.
 // The text is no function of the value, as a relative name keeps the order in which its attributes were read.
 impl Encoded for Name<'_> {
-    ghost text_of = { λ n. name_text (rows_of n) };
+    ghost text_of = { λ n. distinguished_name_text (rows_of n) };
 
     ghost Encodes = { λ n. CameOfWriting (whole_allocates Self.writing)
         (whole_octets Self.writing n) (whole_refuses Self.writing n) };

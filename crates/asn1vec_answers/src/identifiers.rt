@@ -1,7 +1,7 @@
 //! How object identifiers are shown.
 ghost use Rattle.std.specs.Prelude.{◌++◌, false};
 ghost use Rattle.asn1_rs.specs.Oid.{oid_header, oid_octets, oid_value};
-ghost use Rattle.asn1vec_answers.specs.Shown.{IsWritten, identifier_text};
+ghost use Rattle.asn1vec_answers.specs.Shown.{IsWritten, oid_text};
 
 use crate::shown::Encoded;
 use crate::text::{push_displayed, push_str};
@@ -9,7 +9,7 @@ use asn1_rs::Oid;
 use std::alloc::AllocError;
 
 impl Encoded for Oid<'_> {
-    ghost text_of = { λ x. identifier_text (oid_value x) };
+    ghost text_of = { λ x. oid_text (oid_value x) };
 
     ghost Encodes = { λ x. IsWritten false (oid_header x ++ oid_octets x) };
 

@@ -1,13 +1,13 @@
 //! How values of leaf types are shown, with the octets that are written for them, and the end of contents.
 ghost use Rattle.std.specs.Prelude.{◌≡◌, false, None, codes, decimal};
-ghost use Rattle.asn1_rs.specs.BitString.{bit_string_leaf, bits_in};
+ghost use Rattle.asn1_rs.specs.BitString.{bit_string_leaf, bits_of_string};
 ghost use Rattle.asn1_rs.specs.Boolean.{bool_leaf};
 ghost use Rattle.asn1_rs.specs.Enumerated.{enumerated_leaf};
 ghost use Rattle.asn1_rs.specs.Integer.Octets.{any_integer_leaf, integer_octets};
 ghost use Rattle.asn1_rs.specs.Kept.{kept_octets, sequence_leaf, set_leaf};
 ghost use Rattle.asn1_rs.specs.Null.{null_leaf};
-ghost use Rattle.asn1_rs.specs.OctetString.{octet_string_leaf, octets_of};
-ghost use Rattle.asn1vec_answers.specs.Shown.{IsWritten, bits_text, in_hexadecimal, truth_text};
+ghost use Rattle.asn1_rs.specs.OctetString.{octet_string_leaf, string_octets};
+ghost use Rattle.asn1vec_answers.specs.Shown.{IsWritten, bit_string_text, in_hexadecimal, boolean_text};
 ghost use Rattle.asn1vec_answers.specs.Types.{leaf_octets};
 
 use crate::shown::{Encoded, Shown};
@@ -16,7 +16,7 @@ use asn1_rs::{BitString, EndOfContent, Enumerated, Integer, Null, OctetString, S
 use std::alloc::{AllocError, Global};
 
 impl Encoded for bool {
-    ghost text_of = { truth_text };
+    ghost text_of = { boolean_text };
 
     ghost Encodes = { λ x. IsWritten false (leaf_octets bool_leaf x) };
 
@@ -64,9 +64,9 @@ impl Encoded for Integer<'_> {
 }
 
 impl Encoded for OctetString<'_> {
-    ghost text_of = { λ x. in_hexadecimal (octets_of x) };
+    ghost text_of = { λ x. in_hexadecimal (string_octets x) };
 
-    ghost Encodes = { λ x. IsWritten false (leaf_octets octet_string_leaf (octets_of x)) };
+    ghost Encodes = { λ x. IsWritten false (leaf_octets octet_string_leaf (string_octets x)) };
 
     fn show(&self, text: &mut Vec<u8>) -> Result<(), AllocError> {
         push_hexadecimal(text, self.as_bytes())
@@ -76,9 +76,9 @@ impl Encoded for OctetString<'_> {
 }
 
 impl Encoded for BitString<'_> {
-    ghost text_of = { λ x. bits_text (bits_in x) };
+    ghost text_of = { λ x. bit_string_text (bits_of_string x) };
 
-    ghost Encodes = { λ x. IsWritten false (leaf_octets bit_string_leaf (bits_in x)) };
+    ghost Encodes = { λ x. IsWritten false (leaf_octets bit_string_leaf (bits_of_string x)) };
 
     fn show(&self, text: &mut Vec<u8>) -> Result<(), AllocError> {
         push_number(text, self.unused_bits)?;

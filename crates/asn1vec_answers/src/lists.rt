@@ -11,7 +11,8 @@ ghost use Rattle.asn1_rs.specs.Prelude.{items_of, MayRefuse, whole_allocates, wh
 ghost use Rattle.asn1_rs.specs.Lists.{ListForm};
 ghost use Rattle.asn1_rs.specs.Set.{SetForm, ascends, is_other, members, set_of};
 ghost use Rattle.asn1_rs.specs.Sequence.SequenceOf.{sequence_items};
-ghost use Rattle.asn1vec_answers.specs.Shown.{AllowsOctets, AllowsRefusals, StrictEncodingIfAny, in_order, list_text};
+ghost use Rattle.asn1vec_answers.specs.Shown.{AllowsOctets, AllowsRefusals, StrictEncodingIfAny, sorted_keys};
+ghost use Rattle.asn1vec_answers.specs.Shown.{list_text};
 
 use crate::shown::Encoded;
 use crate::text::push_str;
@@ -146,14 +147,14 @@ impl<T: Encoded + AlwaysDer + LawfulMember + Ord> Encoded for BTreeSet<T> {
 // The function takes the row that is std's model of the set. So the text follows from the members alone. The memory is
 // the engine's own: where it is refused, the run ends.
 fn ascending(alloc: Global, set: &HashSet<i8>) -> Result<BTreeSet<i8>, AllocError>
-    ensures { IfOk result (λ ordered. ordered.keys ≡ in_order int_cmp set.now.keys) }
+    ensures { IfOk result (λ ordered. ordered.keys ≡ sorted_keys int_cmp set.now.keys) }
 {
     BTreeSet::from_iter(alloc, set.iter().copied())
 }
 
 /// Its members stand in no order; they are shown as they ascend.
 impl Encoded for HashSet<i8> {
-    ghost text_of = { λ s. list_text signed_decimal (in_order int_cmp s.keys) };
+    ghost text_of = { λ s. list_text signed_decimal (sorted_keys int_cmp s.keys) };
 
     ghost Encodes = { λ s.
         StrictEncodingIfAny (SetForm set_of AllDiffer (IntegerForm (IsSigned 1))) true

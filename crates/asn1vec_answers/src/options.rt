@@ -4,7 +4,7 @@ ghost use Rattle.asn1_rs.specs.Prelude.{ber_words, EndsWithin, Exactly, IsTrunca
 ghost use Rattle.asn1_rs.specs.Prelude.{TellsMemory, whole_allocates, whole_octets, whole_refuses};
 ghost use Rattle.x690.specs.Rules.{ber_rule, der_rule};
 ghost use Rattle.asn1_rs.specs.Optional.{IsLeftOut, OptionGives, option_writing};
-ghost use Rattle.asn1vec_answers.specs.Shown.{AllowsOctets, AllowsRefusals, HeldEncoding, option_text};
+ghost use Rattle.asn1vec_answers.specs.Shown.{AllowsOctets, AllowsRefusals, EncodingOfSome, option_text};
 
 use crate::shown::{Encoded, Shown, push_written};
 use crate::text::push_str;
@@ -47,12 +47,12 @@ where
 /// States of the value that is held what its type says of its writing.
 fn is_told_if_held<T: Encoded>(x: &Option<T>)
     ensures written { AllowsOctets (option_writing T.writing) x.now
-        (HeldEncoding (whole_allocates T.writing) T.Encodes x.now) }
+        (EncodingOfSome (whole_allocates T.writing) T.Encodes x.now) }
     ensures refused { AllowsRefusals (MayRefuse (whole_allocates T.writing)
         (length (whole_octets (option_writing T.writing) x.now)))
-        (HeldEncoding (whole_allocates T.writing) T.Encodes x.now) }
+        (EncodingOfSome (whole_allocates T.writing) T.Encodes x.now) }
     ensures own { AllowsRefusals (whole_refuses (option_writing T.writing) x.now)
-        (HeldEncoding (whole_allocates T.writing) T.Encodes x.now) }
+        (EncodingOfSome (whole_allocates T.writing) T.Encodes x.now) }
 {
     match x {
         Some(value) => value.is_told(),
@@ -64,7 +64,7 @@ fn is_told_if_held<T: Encoded>(x: &Option<T>)
 impl<T: Encoded> Shown for Option<T> {
     ghost text_of = { option_text T.text_of };
 
-    ghost Encodes = { HeldEncoding
+    ghost Encodes = { EncodingOfSome
         (whole_allocates T.writing) T.Encodes };
 
     fn show(&self, text: &mut Vec<u8>) -> Result<(), AllocError> {

@@ -5,7 +5,7 @@ ghost use Rattle.asn1_rs.specs.Prelude.{whole_refuses};
 ghost use Rattle.asn1_headers.specs.Error.{tells_of_io};
 ghost use Rattle.asn1vec_answers.specs.Meaning.{ReadsByEither};
 ghost use Rattle.asn1vec_answers.specs.Shown.{AllowsOctets, AllowsRefusals, CameOfWriting, Encoding, Gains, SaysAnswer};
-ghost use Rattle.asn1vec_answers.specs.Shown.{IsReadAnswer, ReadsByBer, ReadsByDer, SaysEncoding, SaysWriting};
+ghost use Rattle.asn1vec_answers.specs.Shown.{IsReadAnswer, ReadingByBer, ReadingByDer, SaysEncoding, SaysWriting};
 
 use crate::names::{push_refusal, push_write_refusal};
 use crate::request::Rule;
@@ -188,7 +188,7 @@ pub(crate) fn push_by_ber<'a, T>(
 where
     T: LawfulBer<'a, Error> + Shown + Drop,
     ensures { OnOk result (Gains text.old.items text.new.items (IsReadAnswer
-        (ReadsByBer (ber_words T.grammar) T.grammar.value T.grammar.allocates T.ber_gives)
+        (ReadingByBer (ber_words T.grammar) T.grammar.value T.grammar.allocates T.ber_gives)
         T.text_of T.Encodes octets.now)) }
 {
     push_reading(alloc, read_ber::<T, Error>(alloc, octets), buffer, text)
@@ -204,7 +204,7 @@ pub(crate) fn push_by_der<'a, T>(
 where
     T: LawfulDer<'a, Error> + Shown + Drop,
     ensures { OnOk result (Gains text.old.items text.new.items (IsReadAnswer
-        (ReadsByDer T.grammar.Der T.grammar.value T.grammar.allocates T.der_gives)
+        (ReadingByDer T.grammar.Der T.grammar.value T.grammar.allocates T.der_gives)
         T.text_of T.Encodes octets.now)) }
 {
     push_reading(alloc, read_der::<T, Error>(alloc, octets), buffer, text)

@@ -1,7 +1,7 @@
 //! How strings of characters are shown: the octets of their text in UTF-8, in hexadecimal digits.
 ghost use Rattle.std.specs.Prelude.{false};
 ghost use Rattle.asn1_rs.specs.CodedStrings.{coded_string_leaf};
-ghost use Rattle.asn1_rs.specs.Strings.{string_leaf, text_of as string_text};
+ghost use Rattle.asn1_rs.specs.Strings.{string_leaf, string_text};
 ghost use Rattle.asn1vec_answers.specs.Shown.{IsWritten, in_hexadecimal};
 ghost use Rattle.asn1vec_answers.specs.Types.{leaf_octets};
 

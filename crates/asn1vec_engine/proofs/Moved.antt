@@ -10,12 +10,13 @@ use Rattle.std.specs.Io.KnownBytes.{Appends, Consumes, IsAtEnd}
 use Rattle.asn1vec_engine.specs.Lines.{lines_of}
 use Rattle.asn1vec_answers.specs.Answer.{IsAnswerLine}
 use Rattle.asn1vec_engine.specs.Outputs.{BeginsAnswer, AreAnswers, BeginAnswers}
-use Rattle.asn1vec_engine.specs.Engine.{Answers, AnswersTo, BeginsAnswersTo, Moves, Begins}
+use Rattle.asn1vec_engine.specs.Engine.{Answers, AnswersTo, BeginsAnswersTo, GainsAnswers, GainsBeginning}
 use Rattle.asn1vec_engine.proofs.Appended.{appends_none, appends_both}
 use Rattle.asn1vec_engine.proofs.LineLaws.{IsOpen, lines_of_ended, lines_of_last, long_dropped, none_begun}
 use Rattle.asn1vec_engine.proofs.LineLaws.{answered_first}
 
-pub moves_both : {a b c : Option (List ℕ)} {xs ys zs : List ℕ} → Moves a b xs ys → Moves b c ys zs → Moves a c xs zs
+pub moves_both : {a b c : Option (List ℕ)} {xs ys zs : List ℕ} → GainsAnswers a b xs ys → GainsAnswers b c ys zs →
+    GainsAnswers a c xs zs
 moves_both {a} {b} {c} {xs} {ys} {zs} p q = record {
   gained = p.gained ++ q.gained;
   told = appends_both _ _ _ _ _ p.told q.told;
@@ -23,12 +24,12 @@ moves_both {a} {b} {c} {xs} {ys} {zs} p q = record {
       (p.joins all rest (q.gained ++ texts) (q.joins all rest texts h));
 }
 
-pub moves_none : (a : Option (List ℕ)) (xs : List ℕ) → Moves a a xs xs
+pub moves_none : (a : Option (List ℕ)) (xs : List ℕ) → GainsAnswers a a xs xs
 moves_none a xs = record { gained = []; told = appends_none a; joins = λ all rest texts h. h }
 
 -- more octets after both
-pub moves_more : {a b : Option (List ℕ)} {xs ys : List ℕ} (more : List ℕ) → Moves a b xs ys →
-    Moves a b (xs ++ more) (ys ++ more)
+pub moves_more : {a b : Option (List ℕ)} {xs ys : List ℕ} (more : List ℕ) → GainsAnswers a b xs ys →
+    GainsAnswers a b (xs ++ more) (ys ++ more)
 moves_more {a} {b} {xs} {ys} more p = record {
   gained = p.gained;
   told = p.told;
@@ -37,10 +38,11 @@ moves_more {a} {b} {xs} {ys} more p = record {
       (p.joins all (more ++ rest) texts (subst (λ l. Answers all (lines_of l) texts) (append_assoc ys more rest) h));
 }
 
-pub begins_none : (a : Option (List ℕ)) (xs : List ℕ) → Begins a a xs
+pub begins_none : (a : Option (List ℕ)) (xs : List ℕ) → GainsBeginning a a xs
 begins_none a xs = record { gained = []; told = appends_none a; front = λ rest. none_begun (lines_of (xs ++ rest)) }
 
-pub moves_begins : {a b c : Option (List ℕ)} {xs ys : List ℕ} → Moves a b xs ys → Begins b c ys → Begins a c xs
+pub moves_begins : {a b c : Option (List ℕ)} {xs ys : List ℕ} → GainsAnswers a b xs ys → GainsBeginning b c ys →
+    GainsBeginning a c xs
 moves_begins {a} {b} {c} {xs} {ys} p q = record {
   gained = p.gained ++ q.gained;
   told = appends_both _ _ _ _ _ p.told q.told;
@@ -48,7 +50,8 @@ moves_begins {a} {b} {c} {xs} {ys} p q = record {
 }
 
 -- a beginning, also with more octets
-pub begins_more : {a b : Option (List ℕ)} {xs : List ℕ} (more : List ℕ) → Begins a b xs → Begins a b (xs ++ more)
+pub begins_more : {a b : Option (List ℕ)} {xs : List ℕ} (more : List ℕ) → GainsBeginning a b xs →
+    GainsBeginning a b (xs ++ more)
 begins_more {a} {b} {xs} more p = record {
   gained = p.gained;
   told = p.told;
@@ -60,7 +63,7 @@ ended_lines line rest o = ap lines_of (append_assoc line (10 ∷ []) rest) ∙ l
 
 -- a whole line was answered
 pub moves_ended : {a b : Option (List ℕ)} (line ended : List ℕ) → IsOpen line → IsAnswerLine line ended →
-    Appends a b ended → Moves a b (line ++ 10 ∷ []) []
+    Appends a b ended → GainsAnswers a b (line ++ 10 ∷ []) []
 moves_ended line ended o a t = record {
   gained = ended;
   told = t;
@@ -76,7 +79,7 @@ begun_first line front lines (inr h) = inr (inl h)
 
 -- a beginning of its answer was written
 pub begins_ended : {a b : Option (List ℕ)} (line front : List ℕ) → IsOpen line →
-    (front ≡ []) ⊎ BeginsAnswer line front → Appends a b front → Begins a b (line ++ 10 ∷ [])
+    (front ≡ []) ⊎ BeginsAnswer line front → Appends a b front → GainsBeginning a b (line ++ 10 ∷ [])
 begins_ended line front o h t = record {
   gained = front;
   told = t;
@@ -86,7 +89,7 @@ begins_ended line front o h t = record {
 
 -- an octet of a line that is too long already was dropped
 pub moves_dropped : (a : Option (List ℕ)) (line : List ℕ) (x : ℕ) → IsOpen line → x ≢ 10 → 65536 < length line →
-    Moves a a (line ++ x ∷ []) line
+    GainsAnswers a a (line ++ x ∷ []) line
 moves_dropped a line x o n h = record {
   gained = [];
   told = appends_none a;
@@ -96,16 +99,16 @@ moves_dropped a line x o n h = record {
 
 -- so were any octets
 pub moves_truncated : (a : Option (List ℕ)) (line more : List ℕ) → IsOpen line → IsOpen more → 65536 < length line →
-    Moves a a (line ++ more) line
-moves_truncated a line [] o p h = subst (λ l. Moves a a l line) (sym (append-nil line)) (moves_none a line)
+    GainsAnswers a a (line ++ more) line
+moves_truncated a line [] o p h = subst (λ l. GainsAnswers a a l line) (sym (append-nil line)) (moves_none a line)
 moves_truncated a line (x ∷ more) o (n, p) h =
-    subst (λ l. Moves a a l line) (append_assoc line (x ∷ []) more)
+    subst (λ l. GainsAnswers a a l line) (append_assoc line (x ∷ []) more)
     (moves_both (moves_more more (moves_dropped a line x o n h)) (moves_truncated a line more o p h))
 
 -- as many octets are kept as make the line too long, or all
 pub moves_kept : (a : Option (List ℕ)) (line octets : List ℕ) (n : ℕ) → All (λ x. x ≢ 10) line →
     All (λ x. x ≢ 10) octets → n ≡ min (length octets) (65537 - length line)
-    → Moves a a (line ++ octets) (line ++ take n octets)
+    → GainsAnswers a a (line ++ octets) (line ++ take n octets)
 moves_kept a line octets n o p e = elim (cases_lt n (length octets)) [
   | inl truncated ↦
       let kept : length (take n octets) ≡ n = length-take-le n octets (omega (arith, truncated)) in
@@ -114,71 +117,72 @@ moves_kept a line octets n o p e = elim (cases_lt n (length octets)) [
       append_assoc line (take n octets) (drop n octets) ∙ ap (λ l. line ++ l) (take-append-drop n octets) in
       let front : IsOpen (line ++ take n octets) = recursion_from_All _ _
       (All-append (λ x. x ≢ 10) line (take n octets) o (All-take (λ x. x ≢ 10) n octets p)) in
-      subst (λ l. Moves a a l (line ++ take n octets)) whole (moves_truncated a (line ++ take n octets) (drop n octets) front
+      subst (λ l. GainsAnswers a a l (line ++ take n octets)) whole (moves_truncated a (line ++ take n octets) (drop n octets) front
       (recursion_from_All _ _ (All-drop (λ x. x ≢ 10) n octets p)) size)
   | inr all ↦
-      subst (λ l. Moves a a (line ++ octets) (line ++ l)) (sym (take_all n octets all)) (moves_none a (line ++ octets))
+      subst (λ l. GainsAnswers a a (line ++ octets) (line ++ l)) (sym (take_all n octets all))
+      (moves_none a (line ++ octets))
 ]
 
 -- the line was empty, and one that octets end was answered
 pub moves_first : {a b : Option (List ℕ)} (line last ended : List ℕ) → length line ≡ 0 → All (λ x. x ≢ 10) last →
-    IsAnswerLine last ended → Appends a b ended → Moves a b ((line ++ last) ++ 10 ∷ []) line
+    IsAnswerLine last ended → Appends a b ended → GainsAnswers a b ((line ++ last) ++ 10 ∷ []) line
 moves_first [] last ended none o is t = moves_ended last ended (recursion_from_All _ _ o) is t
 moves_first (x ∷ line) last ended none o is t = absurd (omega (arith, none))
 
 pub begins_first : {a b : Option (List ℕ)} (line last front : List ℕ) → length line ≡ 0 → All (λ x. x ≢ 10) last →
-    (front ≡ []) ⊎ BeginsAnswer last front → Appends a b front → Begins a b ((line ++ last) ++ 10 ∷ [])
+    (front ≡ []) ⊎ BeginsAnswer last front → Appends a b front → GainsBeginning a b ((line ++ last) ++ 10 ∷ [])
 begins_first [] last front none o is t = begins_ended last front (recursion_from_All _ _ o) is t
 begins_first (x ∷ line) last front none o is t = absurd (omega (arith, none))
 
 -- no octets were taken yet
 pub moves_start : (a : Option (List ℕ)) (line octets : List ℕ) →
-    (done : List ℕ) × (octets ≡ done ++ octets) × Moves a a (line ++ done) line
-moves_start a line octets = ([], refl, subst (λ l. Moves a a l line) (sym (append-nil line)) (moves_none a line))
+    (done : List ℕ) × (octets ≡ done ++ octets) × GainsAnswers a a (line ++ done) line
+moves_start a line octets = ([], refl, subst (λ l. GainsAnswers a a l line) (sym (append-nil line)) (moves_none a line))
 
 pub shorter : (rest last after : List ℕ) → rest ≡ last ++ 10 ∷ after → length after < length rest
 shorter rest last after e = rw e (omega (arith, length-append last (10 ∷ after)))
 
 -- one more line that octets end
 pub moves_line : {a b c : Option (List ℕ)} {kept next : List ℕ} (first octets done rest last after : List ℕ) →
-    octets ≡ done ++ rest → rest ≡ last ++ 10 ∷ after → Moves a b (first ++ done) kept
-    → Moves b c ((kept ++ last) ++ 10 ∷ []) next →
-    (all : List ℕ) × (octets ≡ all ++ after) × Moves a c (first ++ all) next
+    octets ≡ done ++ rest → rest ≡ last ++ 10 ∷ after → GainsAnswers a b (first ++ done) kept
+    → GainsAnswers b c ((kept ++ last) ++ 10 ∷ []) next →
+    (all : List ℕ) × (octets ≡ all ++ after) × GainsAnswers a c (first ++ all) next
 moves_line {a} {b} {c} {kept} {next} first octets done rest last after whole split p q =
     let line = last ++ 10 ∷ [] in
     let seam : done ++ rest ≡ (done ++ line) ++ after =
     ap (λ l. done ++ l) (split ∙ sym (append_assoc last (10 ∷ []) after)) ∙ sym (append_assoc done line after) in (
       done ++ line,
       whole ∙ seam,
-      subst (λ l. Moves a c l next) (append_assoc first done line)
-          (moves_both (moves_more line p) (subst (λ l. Moves b c l next) (append_assoc kept last (10 ∷ [])) q)),
+      subst (λ l. GainsAnswers a c l next) (append_assoc first done line)
+          (moves_both (moves_more line p) (subst (λ l. GainsAnswers b c l next) (append_assoc kept last (10 ∷ [])) q)),
     )
 
 -- a beginning of its answer was written
 pub begins_line : {a b c : Option (List ℕ)} {kept : List ℕ} (first octets done rest last after : List ℕ) →
-    octets ≡ done ++ rest → rest ≡ last ++ 10 ∷ after → Moves a b (first ++ done) kept
-    → Begins b c ((kept ++ last) ++ 10 ∷ []) → Begins a c (first ++ octets)
+    octets ≡ done ++ rest → rest ≡ last ++ 10 ∷ after → GainsAnswers a b (first ++ done) kept
+    → GainsBeginning b c ((kept ++ last) ++ 10 ∷ []) → GainsBeginning a c (first ++ octets)
 begins_line {a} {b} {c} {kept} first octets done rest last after whole split p q =
     let line = last ++ 10 ∷ [] in
     let seam : done ++ rest ≡ (done ++ line) ++ after =
     ap (λ l. done ++ l) (split ∙ sym (append_assoc last (10 ∷ []) after)) ∙ sym (append_assoc done line after) in
-    let begun = moves_begins (moves_more line p) (subst (Begins b c) (append_assoc kept last (10 ∷ [])) q) in
-    subst (Begins a c) (append_assoc first (done ++ line) after ∙ ap (λ l. first ++ l) (sym (whole ∙ seam)))
-    (begins_more after (subst (Begins a c) (append_assoc first done line) begun))
+    let begun = moves_begins (moves_more line p) (subst (GainsBeginning b c) (append_assoc kept last (10 ∷ [])) q) in
+    subst (GainsBeginning a c) (append_assoc first (done ++ line) after ∙ ap (λ l. first ++ l) (sym (whole ∙ seam)))
+    (begins_more after (subst (GainsBeginning a c) (append_assoc first done line) begun))
 
 -- what follows the last line was kept
 pub moves_rest : {a b : Option (List ℕ)} {kept next : List ℕ} (first octets done rest : List ℕ) →
-    octets ≡ done ++ rest → Moves a b (first ++ done) kept → Moves b b (kept ++ rest) next →
-    Moves a b (first ++ octets) next
+    octets ≡ done ++ rest → GainsAnswers a b (first ++ done) kept → GainsAnswers b b (kept ++ rest) next →
+    GainsAnswers a b (first ++ octets) next
 moves_rest {a} {b} {kept} {next} first octets done rest whole p q =
-    subst (λ l. Moves a b l next) (append_assoc first done rest ∙ ap (λ l. first ++ l) (sym whole))
+    subst (λ l. GainsAnswers a b l next) (append_assoc first done rest ∙ ap (λ l. first ++ l) (sym whole))
     (moves_both (moves_more rest p) q)
 
 -- or could not be kept
 pub begins_rest : {a b : Option (List ℕ)} {kept : List ℕ} (first octets done rest : List ℕ) → octets ≡ done ++ rest →
-    Moves a b (first ++ done) kept → Begins a b (first ++ octets)
+    GainsAnswers a b (first ++ done) kept → GainsBeginning a b (first ++ octets)
 begins_rest {a} {b} {kept} first octets done rest whole p =
-    subst (Begins a b) (append_assoc first done rest ∙ ap (λ l. first ++ l) (sym whole))
+    subst (GainsBeginning a b) (append_assoc first done rest ∙ ap (λ l. first ++ l) (sym whole))
     (begins_more rest (moves_begins p (begins_none b kept)))
 
 -- the end of input ends a line
@@ -196,7 +200,8 @@ last_begun (x ∷ line) front o n h =
 
 -- the whole input was read, and its last line answered, or a beginning of that answer written
 pub answered_input : (all : Bool) (old new : Option (List ℕ)) (a b c : Option (List ℕ)) (read line texts : List ℕ) →
-    Consumes old new read → IsAtEnd new → Moves a b read line → Answers all (lines_of line) texts → Appends b c texts
+    Consumes old new read → IsAtEnd new → GainsAnswers a b read line → Answers all (lines_of line) texts →
+    Appends b c texts
     → IfSome old (λ octets. (texts : List ℕ) × Answers all (lines_of octets) texts × Appends a c texts)
 answered_input all None new a b c read line texts e n m t p = tt
 answered_input all (Some xs) None a b c read line texts e n m t p = absurd e
@@ -210,7 +215,7 @@ answered_input all (Some xs) (Some ys) a b c read line texts e n m t p =
 
 -- it was read up to a failure
 pub begun_input : (old new : Option (List ℕ)) (a b : Option (List ℕ)) (read : List ℕ) → Consumes old new read →
-    Begins a b read → IfSome old (λ octets. (texts : List ℕ) × BeginsAnswersTo octets texts × Appends a b texts)
+    GainsBeginning a b read → IfSome old (λ octets. (texts : List ℕ) × BeginsAnswersTo octets texts × Appends a b texts)
 begun_input None new a b read e p = tt
 begun_input (Some xs) None a b read e p = absurd e
 begun_input (Some xs) (Some ys) a b read e p =
@@ -223,11 +228,12 @@ consumes_both (Some x) None c bs cs p q = absurd p
 consumes_both (Some x) (Some y) None bs cs p q = absurd q
 consumes_both (Some x) (Some y) (Some z) bs cs p q = p ∙ ap (λ l. bs ++ l) q ∙ sym (append_assoc bs cs z)
 
-pub begins_moved : {a b : Option (List ℕ)} {xs ys : List ℕ} → Moves a b xs ys → Begins a b xs
+pub begins_moved : {a b : Option (List ℕ)} {xs ys : List ℕ} → GainsAnswers a b xs ys → GainsBeginning a b xs
 begins_moved {a} {b} {xs} {ys} m = moves_begins m (begins_none b ys)
 
 -- a read of no octets
-pub moves_zero : {a b : Option (List ℕ)} {ys : List ℕ} (xs : List ℕ) (n : ℕ) (buf : List ℕ) → n ≡ 0 → Moves a b xs ys →
-    Moves a b (xs ++ take n buf) ys
+pub moves_zero : {a b : Option (List ℕ)} {ys : List ℕ} (xs : List ℕ) (n : ℕ) (buf : List ℕ) → n ≡ 0 →
+    GainsAnswers a b xs ys →
+    GainsAnswers a b (xs ++ take n buf) ys
 moves_zero {a} {b} {ys} xs n buf e m =
-    subst (λ l. Moves a b l ys) (sym (ap (λ k. xs ++ take k buf) e ∙ append-nil xs)) m
+    subst (λ l. GainsAnswers a b l ys) (sym (ap (λ k. xs ++ take k buf) e ∙ append-nil xs)) m

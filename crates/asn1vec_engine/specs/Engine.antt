@@ -20,14 +20,14 @@ abbrev pub BeginsAnswersTo : List ℕ → List ℕ → Type 0
 BeginsAnswersTo octets texts = Answers false (lines_of octets) texts
 
 -- the writer gained answers, and those to `after` complete them to those to `before`, whatever follows
-pub record Moves (old new : Option (List ℕ)) (before after : List ℕ) : Type 0 where
+pub record GainsAnswers (old new : Option (List ℕ)) (before after : List ℕ) : Type 0 where
   pub gained : List ℕ
   pub told : Appends old new gained
   pub joins : (all : Bool) (rest texts : List ℕ) → Answers all (lines_of (after ++ rest)) texts →
       Answers all (lines_of (before ++ rest)) (gained ++ texts)
 
 -- the writer gained a beginning of the answers, whatever follows
-pub record Begins (old new : Option (List ℕ)) (before : List ℕ) : Type 0 where
+pub record GainsBeginning (old new : Option (List ℕ)) (before : List ℕ) : Type 0 where
   pub gained : List ℕ
   pub told : Appends old new gained
   pub front : (rest : List ℕ) → BeginsAnswersTo (before ++ rest) gained

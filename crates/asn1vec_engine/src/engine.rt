@@ -6,7 +6,8 @@ ghost use Rattle.asn1vec_answers.specs.Answer.{IsAnswerLine};
 ghost use Rattle.asn1vec_engine.specs.Lines.{lines_of};
 ghost use Rattle.asn1vec_answers.specs.Memory.{TakesNoMemory};
 ghost use Rattle.asn1vec_engine.specs.Outputs.{AllAlike, BeginsAnswer};
-ghost use Rattle.asn1vec_engine.specs.Engine.{AnswersTo, BeginsAnswersTo, Moves, Begins, TellsMark, last_line};
+ghost use Rattle.asn1vec_engine.specs.Engine.{AnswersTo, BeginsAnswersTo, GainsAnswers, GainsBeginning, TellsMark};
+ghost use Rattle.asn1vec_engine.specs.Engine.{last_line};
 ghost use Rattle.asn1vec_engine.specs.declared.engine.RunError.TheVariants.{OutOfMemory};
 
 use asn1_rs::DerWrite;
@@ -104,7 +105,8 @@ fn keep(line: &mut Vec<u8>, octets: &[u8]) -> Result<(), AllocError>
     requires octets { All (λ x. x ≢ 10) octets.now }
     ensures open { OnOk result (All (λ x. x ≢ 10) line.new.items) }
     ensures moves { OnOk result
-        ((told : Option (List ℕ)) → Moves told told (line.old.items ++ octets.now) line.new.items) }
+        ((told : Option (List ℕ)) → GainsAnswers told told (line.old.items ++ octets.now)
+        line.new.items) }
 {
     let room = (LONGEST_LINE + 1).saturating_sub(line.len());
     let kept = octets.len().min(room);
@@ -123,9 +125,9 @@ fn end_line<W: DerWrite>(
     requires open { All (λ x. x ≢ 10) line.old.items }
     requires last { All (λ x. x ≢ 10) last.now }
     ensures open { OnOk result (All (λ x. x ≢ 10) line.new.items) }
-    ensures ok { OnOk result (Moves (W.state output.old).told (W.state output.new).told
+    ensures ok { OnOk result (GainsAnswers (W.state output.old).told (W.state output.new).told
         ((line.old.items ++ last.now) ++ 10 ∷ []) line.new.items) }
-    ensures err { OnErr result (Begins (W.state output.old).told (W.state output.new).told
+    ensures err { OnErr result (GainsBeginning (W.state output.old).told (W.state output.new).told
         ((line.old.items ++ last.now) ++ 10 ∷ [])) }
     ensures mark { TellsMark (W.state output.old).failed (W.state output.new).failed result }
 {
@@ -148,9 +150,9 @@ fn take_octets<W: DerWrite>(
 ) -> Result<(), RunError>
     requires { All (λ x. x ≢ 10) line.old.items }
     ensures open { OnOk result (All (λ x. x ≢ 10) line.new.items) }
-    ensures ok { OnOk result (Moves (W.state output.old).told (W.state output.new).told
+    ensures ok { OnOk result (GainsAnswers (W.state output.old).told (W.state output.new).told
         (line.old.items ++ octets.now) line.new.items) }
-    ensures err { OnErr result (Begins (W.state output.old).told (W.state output.new).told
+    ensures err { OnErr result (GainsBeginning (W.state output.old).told (W.state output.new).told
         (line.old.items ++ octets.now)) }
     ensures mark { TellsMark (W.state output.old).failed (W.state output.new).failed result }
 {

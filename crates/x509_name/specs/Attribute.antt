@@ -42,7 +42,7 @@ abbrev pub any_item : ItemGrammar Any
 any_item = item_grammar any_element
 
 -- The octets are a word of the first grammar and then one of the second, and nothing else.
-pub record AreTwo {V W : Type 0} (First : List ℕ → V → Type 0) (Second : List ℕ → W → Type 0) (octets : List ℕ)
+pub record ArePairOfWords {V W : Type 0} (First : List ℕ → V → Type 0) (Second : List ℕ → W → Type 0) (octets : List ℕ)
     (v : V) (w : W) : Type 0 where
   pub front : List ℕ
   pub behind : List ℕ
@@ -53,12 +53,12 @@ pub record AreTwo {V W : Type 0} (First : List ℕ → V → Type 0) (Second : L
 -- The element is a constructed one with the tag number of sequences, which holds the two parts by DER.
 pub record AttributeBody (p : Parts) (v : AttributeValue) : Type 0 where
   pub shape : IsConstructed 16 p
-  pub parts : AreTwo oid_item.Der any_item.Der p.content v.oid v.value
+  pub parts : ArePairOfWords oid_item.Der any_item.Der p.content v.oid v.value
 
 -- the strict contents octets are the strict encodings of the two parts
 abbrev pub AttributeContent : AttributeValue → List ℕ → Type 0
 AttributeContent v c =
-    AreTwo (AsWords (IsStrict oid_element.Form)) (AsWords (IsStrict any_element.Form)) c v.oid v.value
+    ArePairOfWords (AsWords (IsStrict oid_element.Form)) (AsWords (IsStrict any_element.Form)) c v.oid v.value
 
 -- Attributes, as elements. They are in DER form where both parts are, so where the identifier is.
 abbrev pub attribute_element : ElementGrammar AttributeTypeAndValue

@@ -10,9 +10,9 @@ use Rattle.asn1_rs.specs.Checks.{has_number}
 use Rattle.asn1_rs.specs.Grammar.{DerWord, NoCheck}
 use Rattle.asn1_rs.specs.Grammar.Form.{IsStrict}
 use Rattle.asn1_rs.specs.Grammar.Item.{ItemGrammar}
-use Rattle.asn1_rs.specs.Kinds.{ElementGrammar, HoldingReads, item_grammar}
+use Rattle.asn1_rs.specs.Kinds.{ElementGrammar, InnerReads, item_grammar}
 use Rattle.asn1_rs.specs.Kinds.Writing.{list_writing}
-use Rattle.asn1_rs.specs.Lists.{ListForm, ListOf, ListTakes, has_items}
+use Rattle.asn1_rs.specs.Lists.{ListForm, ListOf, ListConverts, has_items}
 use Rattle.asn1_rs.specs.ToDer.{Writing, whole_octets}
 use Rattle.asn1_rs.specs.Traits.{DerGives, OfParts, PassesAll}
 use Rattle.x509_name.specs.Attribute.{AttributeValue}
@@ -57,12 +57,12 @@ rows_of n = map listed_values (relative_names n)
 
 -- what the reader of vectors of relative names may answer
 abbrev pub RowReads : List ℕ → Result (List ℕ × Vec RelativeDistinguishedName Global) (Refusal Error) → Type 0
-RowReads = DerGives PassesAll (OfParts (ListTakes (has_number 16) has_items RelativeNameGives (λ x y. y ≡ x)))
+RowReads = DerGives PassesAll (OfParts (ListConverts (has_number 16) has_items RelativeNameGives (λ x y. y ≡ x)))
     (λ x y. y ≡ x)
 
 -- a name is read as a vector of relative names is
 abbrev pub NameGives : List ℕ → Result (List ℕ × Name) (Refusal Error) → Type 0
-NameGives = HoldingReads (λ n. n.rdn_sequence) RowReads
+NameGives = InnerReads (λ n. n.rdn_sequence) RowReads
 
 -- Names are written as lists of relative names. One that holds a relative name without attributes is refused.
 abbrev pub name_writing : Writing Name

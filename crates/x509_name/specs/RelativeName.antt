@@ -15,7 +15,7 @@ use Rattle.asn1_rs.specs.Checks.{has_number}
 use Rattle.asn1_rs.specs.Grammar.{DerWord, NoCheck}
 use Rattle.asn1_rs.specs.Grammar.Item.{ItemGrammar}
 use Rattle.asn1_rs.specs.Kinds.{ElementGrammar, item_grammar}
-use Rattle.asn1_rs.specs.Lists.{HasNumber, ListTakes, ShapedList}
+use Rattle.asn1_rs.specs.Lists.{HasNumber, ListConverts, ShapedList}
 use Rattle.asn1_rs.specs.Set.{HasItems, Seen, SetForm, SetInDer, SetValues, items_of, set_content}
 use Rattle.asn1_rs.specs.ToDer.{RefusedAtOnce, Writing, WrittenRefusal}
 use Rattle.asn1_rs.specs.Traits.{DerGives, OfParts, PassesAll}
@@ -33,8 +33,8 @@ abbrev pub listed_values : RelativeDistinguishedName → List AttributeValue
 listed_values r = map attribute_value (attributes r)
 
 -- some value stands in the list
-abbrev pub IsSome : {V : Type 0} → List V → Type 0
-IsSome vs = vs ≢ []
+abbrev pub IsNonEmpty : {V : Type 0} → List V → Type 0
+IsNonEmpty vs = vs ≢ []
 
 -- the value of a relative name is the multiset of the values of its attributes
 abbrev pub relative_name_value : RelativeDistinguishedName → Multiset AttributeValue
@@ -54,10 +54,10 @@ relative_name_element = record {
   Value = Multiset AttributeValue;
   value = relative_name_value;
   IsValue = SetValues multiset attribute_element.IsValue;
-  IsDer = SetInDer multiset IsSome attribute_element.IsDer;
+  IsDer = SetInDer multiset IsNonEmpty attribute_element.IsDer;
   Body = Seen multiset (ShapedList IsSomeSet attribute_item.Der);
   Check = NoCheck;
-  Form = SetForm multiset IsSome attribute_element.Form;
+  Form = SetForm multiset IsNonEmpty attribute_element.Form;
   allocates = true;
 }
 
@@ -67,14 +67,14 @@ relative_name_item = item_grammar relative_name_element
 
 -- what the reader of sets of attributes may answer
 abbrev pub SetReads : List ℕ → Result (List ℕ × SetOf AttributeTypeAndValue) (Refusal Error) → Type 0
-SetReads = DerGives PassesAll (OfParts (ListTakes (has_number 17) HasItems AttributeGives (λ x y. y ≡ x)))
+SetReads = DerGives PassesAll (OfParts (ListConverts (has_number 17) HasItems AttributeGives (λ x y. y ≡ x)))
     (λ x y. y ≡ x)
 
 -- What reading a relative name may answer. An Ok has the attributes of a set, of which there is one at least. A refusal
 -- is that of the set, else that the set is empty.
 abbrev pub RelativeNameGives : List ℕ → Result (List ℕ × RelativeDistinguishedName) (Refusal Error) → Type 0
 RelativeNameGives input (Ok x) = (s : SetOf AttributeTypeAndValue) × SetReads input (Ok (x.0, s)) ×
-    (items_of s ≡ attributes x.1) × IsSome (attributes x.1)
+    (items_of s ≡ attributes x.1) × IsNonEmpty (attributes x.1)
 RelativeNameGives input (Err r) = SetReads input (Err r) ⊎ ((rest : List ℕ) × (s : SetOf AttributeTypeAndValue) ×
     SetReads input (Ok (rest, s)) × (items_of s ≡ []) × (r ≡ refused InvalidLength))
 

@@ -17,7 +17,7 @@ ghost use Rattle.x509_name.specs.Laws.RelativeNameReading.{Memory};
 ghost use Rattle.x509_name.specs.Laws.RelativeNameWriting.{name_lawful_writing};
 ghost use Rattle.x509_name.specs.Name.{NameGives, NameInWordOrder, name_element, name_item, name_value};
 ghost use Rattle.x509_name.specs.Name.{HoldsEmpty, StrictName, name_octets, name_writing, relative_names, rows_of};
-ghost use Rattle.x509_name.specs.RelativeName.{HasNoAttribute, IsSome, RefusedForNone, attributes};
+ghost use Rattle.x509_name.specs.RelativeName.{HasNoAttribute, IsNonEmpty, RefusedForNone, attributes};
 
 use crate::relative_name::RelativeDistinguishedName;
 use asn1_rs::author::{ElementKind, HasKind, LawfulElement, TagNumber, TaggedAs, refusal_of_count};
@@ -74,7 +74,8 @@ impl<'a> LawfulDer<'a, Error> for Name<'a> {
 impl Name<'_> {
     /// Refuses a name that holds a relative name without attributes.
     fn assert_each_some(&self) -> Result<(), Error>
-        ensures { MatchResult result (λ _. All (λ r. IsSome (attributes r)) (relative_names self.now))
+        ensures { MatchResult result (λ _. All (λ r. IsNonEmpty (attributes r))
+            (relative_names self.now))
             (SomeRefuses HasNoAttribute (relative_names self.now)) }
     {
         for relative_name in &self.rdn_sequence {

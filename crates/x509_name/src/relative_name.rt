@@ -10,7 +10,8 @@ ghost use Rattle.x509_name.specs.Attribute.{attribute_octets};
 ghost use Rattle.x509_name.specs.Laws.RelativeName.{relative_name_lawful, relative_name_number};
 ghost use Rattle.x509_name.specs.Laws.RelativeNameReading.{relative_name_exact};
 ghost use Rattle.x509_name.specs.Laws.RelativeNameWriting.{relative_name_lawful_writing};
-ghost use Rattle.x509_name.specs.RelativeName.{HasNoAttribute, IsSome, RefusedForNone, RelativeNameGives, attributes};
+ghost use Rattle.x509_name.specs.RelativeName.{HasNoAttribute, IsNonEmpty, RefusedForNone, RelativeNameGives};
+ghost use Rattle.x509_name.specs.RelativeName.{attributes};
 ghost use Rattle.x509_name.specs.RelativeName.{relative_name_element, relative_name_writing};
 
 use crate::attribute::AttributeTypeAndValue;
@@ -90,7 +91,8 @@ impl LawfulTagged for RelativeDistinguishedName<'_> {
 impl RelativeDistinguishedName<'_> {
     /// Refuses one without attributes.
     pub(crate) fn assert_some(&self) -> Result<(), Error>
-        ensures { MatchResult result (λ _. IsSome (attributes self.now)) (HasNoAttribute self.now) }
+        ensures { MatchResult result (λ _. IsNonEmpty (attributes self.now))
+            (HasNoAttribute self.now) }
     {
         if is_none(&self.v) {
             return Err(Tag::Set.invalid_value("no attribute"));

@@ -4,7 +4,7 @@ ghost use Rattle.std.specs.List.Sorted.{IsPermutation};
 ghost use Rattle.json.specs.Value.{items_of};
 ghost use Rattle.asn1_schema.specs.Sound.{is_sound};
 ghost use Rattle.asn1_json.specs.Denotes.{Denotes, DenoteItems};
-ghost use Rattle.asn1_json.specs.Outcomes.{AreMembers, MakesRow, document_of};
+ghost use Rattle.asn1_json.specs.Outcomes.{AreJsonMembers, MakesRow, document_of};
 ghost use Rattle.asn1_json.specs.Tokens.{Types as SpecTypes};
 
 use crate::reading::leaf::By;
@@ -61,7 +61,7 @@ pub(super) fn put_members(
     made: &mut OwnedTape,
 ) -> Result<(), AllocError>
     ensures { (types : SpecTypes) (depth nesting of : ℕ) →
-        AreMembers (Denotes types depth nesting of) members.now → OnOk result (MakesRow
+        AreJsonMembers (Denotes types depth nesting of) members.now → OnOk result (MakesRow
         (DenoteItems (Denotes types depth nesting of) (items_of (map document_of members.now)))
         made.old made.new) }
 {

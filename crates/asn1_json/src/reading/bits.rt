@@ -7,7 +7,7 @@ ghost use Rattle.json.specs.Value.{members_view};
 ghost use Rattle.asn1_words.specs.Words.{number_text};
 ghost use Rattle.asn1_schema.specs.Grammar.{bits_in};
 ghost use Rattle.asn1_json.specs.DenotedLeaves.{DenotesBits, IsHexadecimal};
-ghost use Rattle.asn1_json.specs.Found.{Finds};
+ghost use Rattle.asn1_json.specs.Found.{FindsOnly};
 ghost use Rattle.asn1_json.specs.Leaves.{octets_of_bits as spec_octets};
 
 use crate::bits::{joined_bits, octets_of_bits};
@@ -20,7 +20,7 @@ use std::alloc::{AllocError, Global};
 
 /// The octets that a text of hexadecimal digits says, two for each, in either case. None are answered where it is none.
 pub(super) fn hexadecimal(alloc: Global, text: &str) -> Result<Option<Vec<u8>>, AllocError>
-    ensures { IfOk result (Finds (λ octets. octets.items) (IsHexadecimal text.now)) }
+    ensures { IfOk result (FindsOnly (λ octets. octets.items) (IsHexadecimal text.now)) }
 {
     match hex::decode(alloc, text.as_bytes()) {
         Ok(octets) => Ok(Some(octets)),
@@ -132,7 +132,7 @@ pub(super) fn bits_of<'a>(
     alloc: Global,
     members: &[(&'a str, Value<'a>)],
 ) -> Result<Option<(u8, Vec<u8>)>, AllocError>
-    ensures { IfOk result (Finds
+    ensures { IfOk result (FindsOnly
         (λ bits. take (8 * length bits.1.items - bits.0) (bits_in bits.1.items))
         (DenotesBits (members_view members.now))) }
 {

@@ -5,7 +5,7 @@ ghost use Rattle.x690.specs.Characters.{code_of};
 ghost use Rattle.x690.specs.Octets.{IsOctets};
 ghost use Rattle.asn1_schema.specs.declared.schema.TextKind.TheVariants as texts;
 ghost use Rattle.asn1_json.specs.DenotedLeaves.{DenotesText};
-ghost use Rattle.asn1_json.specs.Found.{Finds};
+ghost use Rattle.asn1_json.specs.Found.{FindsOnly};
 
 use asn1_schema::schema::TextKind;
 use std::alloc::{AllocError, Global};
@@ -45,7 +45,7 @@ fn numbers_of(alloc: Global, text: &str) -> Result<Option<Vec<u8>>, AllocError>
 
 /// The octets that are the numbers of the characters of a text. None are answered where a number is above 255.
 pub(super) fn character_octets(alloc: Global, text: &str) -> Result<Option<Vec<u8>>, AllocError>
-    ensures { IfOk result (Finds (λ octets. octets.items)
+    ensures { IfOk result (FindsOnly (λ octets. octets.items)
         (λ octets. IsOctets octets × (text.now ≡ encode_utf8_all octets))) }
 {
     numbers_of(alloc, text)
@@ -53,7 +53,7 @@ pub(super) fn character_octets(alloc: Global, text: &str) -> Result<Option<Vec<u
 
 /// The octets of a text in UTF-16.
 fn bmp_octets(alloc: Global, text: &str) -> Result<Option<Vec<u8>>, AllocError>
-    ensures { IfOk result (Finds (λ octets. octets.items) (DenotesText texts.Bmp text.now)) }
+    ensures { IfOk result (FindsOnly (λ octets. octets.items) (DenotesText texts.Bmp text.now)) }
 {
     let octets = coded::<Utf16>(alloc, text)?;
     Ok(Some(octets))
@@ -61,7 +61,8 @@ fn bmp_octets(alloc: Global, text: &str) -> Result<Option<Vec<u8>>, AllocError>
 
 /// The octets of a text in UCS-4.
 fn universal_octets(alloc: Global, text: &str) -> Result<Option<Vec<u8>>, AllocError>
-    ensures { IfOk result (Finds (λ octets. octets.items) (DenotesText texts.Universal text.now)) }
+    ensures { IfOk result (FindsOnly (λ octets. octets.items)
+        (DenotesText texts.Universal text.now)) }
 {
     let octets = coded::<Ucs4>(alloc, text)?;
     Ok(Some(octets))
@@ -73,7 +74,7 @@ pub(super) fn text_octets(
     kind: TextKind,
     text: &str,
 ) -> Result<Option<Vec<u8>>, AllocError>
-    ensures { IfOk result (Finds (λ octets. octets.items) (DenotesText kind text.now)) }
+    ensures { IfOk result (FindsOnly (λ octets. octets.items) (DenotesText kind text.now)) }
 {
     match kind {
         TextKind::Utf8 => {

@@ -9,10 +9,10 @@ ghost use Rattle.json.specs.Value.{value_view};
 ghost use Rattle.asn1_schema.specs.declared.schema.Kind.TheVariants as kinds;
 ghost use Rattle.asn1_schema.specs.Sound.{is_sound};
 ghost use Rattle.asn1_schema.specs.Tape.{leaf_mark, mark, marks};
-ghost use Rattle.asn1_schema.specs.Values.{Leaf, Value as SpecValue, leaf};
+ghost use Rattle.asn1_schema.specs.Values.{LeafValue, Value as SpecValue, leaf};
 ghost use Rattle.asn1_json.specs.DenotedLeaves.{DenotesIdentifier};
 ghost use Rattle.asn1_json.specs.Made.{tape_of_value};
-ghost use Rattle.asn1_json.specs.Outcomes.{DenotesSimple, HasWord, IsElementFound, Makes, Reads, ReadsLeaf};
+ghost use Rattle.asn1_json.specs.Outcomes.{DenotesSimple, HasWord, IsElementFound, Makes, ReadsDenoted, ReadsLeaf};
 ghost use Rattle.asn1_json.specs.Types.{labels_at};
 ghost use Rattle.asn1_json.specs.declared.reading.trail.Fault.TheVariants as faults;
 
@@ -76,7 +76,7 @@ fn put(
     trail: &mut Trail,
 ) -> Result<(), Fault>
     requires { is_sound by.types.table.now ≡ true }
-    ensures { (l : Leaf) → mark item.entry ≡ leaf_mark l → Reads (λ v. v ≡ leaf l)
+    ensures { (l : LeafValue) → mark item.entry ≡ leaf_mark l → ReadsDenoted (λ v. v ≡ leaf l)
         (HasWord by.entry.types.table.now by.entry.depth of) made.old made.new result }
 {
     match judge(by, of, &[item], trail) {

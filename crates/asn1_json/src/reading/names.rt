@@ -4,7 +4,7 @@ ghost use Rattle.json.specs.Find.{get_member};
 ghost use Rattle.json.specs.Json.{member, no_members};
 ghost use Rattle.json.specs.Value.{members_view, value_view};
 ghost use Rattle.asn1_json.specs.Denotes.{AreNamed, IsNameOfField, IsNameOfPart, arm_from};
-ghost use Rattle.asn1_json.specs.Tokens.{name_of_arm, name_of_field, seen, type_of_unknown};
+ghost use Rattle.asn1_json.specs.Tokens.{name_of_arm, name_of_field, given_types, type_of_unknown};
 ghost use Rattle.asn1_json.specs.Types.{arms_of, kind_at, or_name};
 ghost use Rattle.asn1_words.specs.Words.{number_text};
 
@@ -62,7 +62,7 @@ pub(super) fn field_name(
     place: usize,
 ) -> Result<String, AllocError>
     ensures { IfOk result (λ text.
-        string_bytes text ≡ name_of_field (seen types.entry) (Some row) place) }
+        string_bytes text ≡ name_of_field (given_types types.entry) (Some row) place) }
 {
     let name = types.name(Some(row), Some(place as i128));
     name_or_number(alloc, name, place)
@@ -76,7 +76,7 @@ fn arm_name(
     arm: usize,
 ) -> Result<String, AllocError>
     ensures { IfOk result (λ text.
-        string_bytes text ≡ name_of_arm (seen types.entry) (Some choice) arm) }
+        string_bytes text ≡ name_of_arm (given_types types.entry) (Some choice) arm) }
 {
     let name = types.name(Some(choice), Some(arm as i128));
     if types.is_any(types.of_arm(Some(choice), arm)) && name.is_empty() {
@@ -92,7 +92,8 @@ pub(super) fn arm_named(
     choice: usize,
     name: &str,
 ) -> Result<Option<usize>, AllocError>
-    ensures { IfOk result (λ found. IfSome found (λ arm. arm_from (seen types.entry) choice name.now
+    ensures { IfOk result (λ found. IfSome found
+        (λ arm. arm_from (given_types types.entry) choice name.now
         (arms_of (kind_at types.entry.table.now (Some choice))) 0 ≡ Some arm)) }
 {
     for arm in 0..types.arms(Some(choice)).len() {
@@ -113,9 +114,9 @@ pub(super) fn member_of_field<'m, 'a>(
     members: &'m [(&'a str, Value<'a>)],
 ) -> Result<Option<(usize, &'m Value<'a>)>, AllocError>
     ensures { IfOk result (λ found. MatchOption found
-        (get_member (name_of_field (seen types.entry) (Some row) place)
+        (get_member (name_of_field (given_types types.entry) (Some row) place)
         (members_view members.now) ≡ None)
-        (λ found. get_member (name_of_field (seen types.entry) (Some row) place)
+        (λ found. get_member (name_of_field (given_types types.entry) (Some row) place)
         (members_view members.now) ≡ Some (value_view found.1.now))) }
 {
     let name = field_name(alloc, types, row, place)?;
@@ -129,7 +130,7 @@ fn has_field_named(
     row: usize,
     name: &str,
 ) -> Result<bool, AllocError>
-    ensures { IfOk result (λ is. is ≡ true → IsNameOfField (seen types.entry) row name.now) }
+    ensures { IfOk result (λ is. is ≡ true → IsNameOfField (given_types types.entry) row name.now) }
 {
     for place in 0..types.fields(Some(row)).len() {
         let own = field_name(alloc, types, row, place)?;
@@ -148,8 +149,8 @@ fn is_name_of_part(
     name: &str,
 ) -> Result<bool, AllocError>
     ensures { IfOk result (λ is. is ≡ true →
-        IsNameOfPart (seen types.entry) row
-        (type_of_unknown (seen types.entry) (Some row)) name.now) }
+        IsNameOfPart (given_types types.entry) row
+        (type_of_unknown (given_types types.entry) (Some row)) name.now) }
 {
     if let Some(_of) = types.of_unknown(Some(row)) {
         if name == "..." {
@@ -168,8 +169,8 @@ pub(super) fn judge_names<'a>(
     members: &[(&'a str, Value<'a>)],
     trail: &mut Trail,
 ) -> Result<(), Fault>
-    ensures { OnOk result (AreNamed (seen types.entry) row
-        (type_of_unknown (seen types.entry) (Some row)) (members_view members.now)) }
+    ensures { OnOk result (AreNamed (given_types types.entry) row
+        (type_of_unknown (given_types types.entry) (Some row)) (members_view members.now)) }
 {
     let mut rest = members;
     while let [part, others @ ..] = rest {

@@ -6,9 +6,9 @@ ghost use Rattle.asn1_schema.specs.Grammar.{Word};
 ghost use Rattle.asn1_schema.specs.Rules.{der};
 ghost use Rattle.asn1_schema.specs.Sound.{is_sound};
 ghost use Rattle.asn1_json.specs.Denotes.{Denotes, DenotesChosen, DenotesKind, DenotesRow, DenoteUnknown};
-ghost use Rattle.asn1_json.specs.Outcomes.{AreMembers, DenoteFirst, DenotesItems, DenotesList, DenotesOnce};
+ghost use Rattle.asn1_json.specs.Outcomes.{AreJsonMembers, DenoteFirst, DenotesItems, DenotesList, DenotesOnce};
 ghost use Rattle.asn1_json.specs.Outcomes.{DenotesSet, LeftOutOnce, Makes, MakesRow, document_of};
-ghost use Rattle.asn1_json.specs.Tokens.{name_of_field, seen, type_of_unknown};
+ghost use Rattle.asn1_json.specs.Tokens.{name_of_field, given_types, type_of_unknown};
 ghost use Rattle.asn1_json.specs.Types.{arms_of, fields_of, kind_at};
 
 use crate::reading::arranged::{Member, arrange, encoded, put_members};
@@ -89,9 +89,9 @@ fn read_field<'a>(
     trail: &mut Trail,
 ) -> Result<(), Fault>
     requires sound { is_sound by.types.table.now ≡ true }
-    ensures { OnOk result (MakesRow (DenotesOnce (seen by.entry.types) by.entry.depth
-        (Denotes (seen by.entry.types) by.entry.depth depth) field.now
-        (get_member (name_of_field (seen by.entry.types) (Some row) place)
+    ensures { OnOk result (MakesRow (DenotesOnce (given_types by.entry.types) by.entry.depth
+        (Denotes (given_types by.entry.types) by.entry.depth depth) field.now
+        (get_member (name_of_field (given_types by.entry.types) (Some row) place)
         (members_view members.now)))
         made.old made.new) }
 {
@@ -117,8 +117,8 @@ fn read_fields<'a>(
     trail: &mut Trail,
 ) -> Result<(), Fault>
     requires sound { is_sound by.types.table.now ≡ true }
-    ensures { (unknown : Option ℕ) → OnOk result (MakesRow (DenoteFirst (seen by.entry.types)
-        by.entry.depth (Denotes (seen by.entry.types) by.entry.depth depth) row unknown
+    ensures { (unknown : Option ℕ) → OnOk result (MakesRow (DenoteFirst (given_types by.entry.types)
+        by.entry.depth (Denotes (given_types by.entry.types) by.entry.depth depth) row unknown
         (members_view members.now) (fields_of (kind_at by.entry.types.table.now (Some row)))
         (length (fields_of (kind_at by.entry.types.table.now (Some row))))) made.old made.new) }
 {
@@ -142,7 +142,8 @@ fn read_array(
 ) -> Result<(), Fault>
     requires sound { is_sound by.types.table.now ≡ true }
     ensures { OnOk result (MakesRow (DenotesItems
-        (Denotes (seen by.entry.types) by.entry.depth depth inner) (value_view value.now)) made.old made.new) }
+        (Denotes (given_types by.entry.types) by.entry.depth depth inner) (value_view value.now))
+        made.old made.new) }
 {
     let Value::Array(items) = value else {
         return Err(trail.refused(of, Reason::Array));
@@ -168,8 +169,8 @@ fn read_unknown<'a>(
 ) -> Result<(), Fault>
     requires sound { is_sound by.types.table.now ≡ true }
     ensures { OnOk result (MakesRow (DenoteUnknown
-        (Denotes (seen by.entry.types) by.entry.depth depth)
-        (type_of_unknown (seen by.entry.types) (Some row))
+        (Denotes (given_types by.entry.types) by.entry.depth depth)
+        (type_of_unknown (given_types by.entry.types) (Some row))
         (get_member (codes "...") (members_view members.now))) made.old made.new) }
 {
     let Some(of) = by.types.of_unknown(Some(row)) else {
@@ -196,10 +197,10 @@ fn read_row(
     trail: &mut Trail,
 ) -> Result<(), Fault>
     requires sound { is_sound by.types.table.now ≡ true }
-    ensures { OnOk result (Makes (DenotesRow (seen by.entry.types) by.entry.depth
-        (Denotes (seen by.entry.types) by.entry.depth depth) row
+    ensures { OnOk result (Makes (DenotesRow (given_types by.entry.types) by.entry.depth
+        (Denotes (given_types by.entry.types) by.entry.depth depth) row
         (fields_of (kind_at by.entry.types.table.now (Some row)))
-        (type_of_unknown (seen by.entry.types) (Some row)) (value_view value.now))
+        (type_of_unknown (given_types by.entry.types) (Some row)) (value_view value.now))
         made.old made.new) }
 {
     let Value::Object(members) = value else {
@@ -227,7 +228,8 @@ fn read_list(
 ) -> Result<(), Fault>
     requires sound { is_sound by.types.table.now ≡ true }
     ensures { OnOk result (Makes (DenotesList
-        (Denotes (seen by.entry.types) by.entry.depth depth inner) (value_view value.now)) made.old made.new) }
+        (Denotes (given_types by.entry.types) by.entry.depth depth inner) (value_view value.now))
+        made.old made.new) }
 {
     let mut items = OwnedTape::new(by.alloc);
     read_array(by, depth, of, inner, value, &mut items, trail)?;
@@ -247,8 +249,8 @@ fn read_members<'v, 'a>(
     requires sound { is_sound by.types.table.now ≡ true }
     ensures all { IfOk result (λ members.
         map document_of members.items ≡ map value_view items.now) }
-    ensures each { IfOk result (λ members. AreMembers
-        (Denotes (seen by.entry.types) by.entry.depth depth of) members.items) }
+    ensures each { IfOk result (λ members. AreJsonMembers
+        (Denotes (given_types by.entry.types) by.entry.depth depth of) members.items) }
 {
     let mut members = Vec::new(by.alloc);
     for (place, item) in items.iter().enumerate() {
@@ -275,7 +277,8 @@ fn read_set(
 ) -> Result<(), Fault>
     requires sound { is_sound by.types.table.now ≡ true }
     ensures { OnOk result (Makes (DenotesSet
-        (Denotes (seen by.entry.types) by.entry.depth depth inner) (value_view value.now)) made.old made.new) }
+        (Denotes (given_types by.entry.types) by.entry.depth depth inner) (value_view value.now))
+        made.old made.new) }
 {
     let Value::Array(items) = value else {
         return Err(trail.refused(of, Reason::Array));
@@ -301,8 +304,8 @@ fn read_choice(
     trail: &mut Trail,
 ) -> Result<(), Fault>
     requires sound { is_sound by.types.table.now ≡ true }
-    ensures { OnOk result (Makes (DenotesChosen (seen by.entry.types)
-        (Denotes (seen by.entry.types) by.entry.depth depth) choice
+    ensures { OnOk result (Makes (DenotesChosen (given_types by.entry.types)
+        (Denotes (given_types by.entry.types) by.entry.depth depth) choice
         (arms_of (kind_at by.entry.types.table.now (Some choice))) (value_view value.now))
         made.old made.new) }
 {
@@ -341,8 +344,8 @@ fn read_kind(
 ) -> Result<(), Fault>
     requires sound { is_sound by.types.table.now ≡ true }
     requires kind { kind_at by.types.table.now (Some at) ≡ Some kind.now }
-    ensures { OnOk result (Makes (DenotesKind (seen by.entry.types) by.entry.depth
-        (Denotes (seen by.entry.types) by.entry.depth depth) at (Some kind.now)
+    ensures { OnOk result (Makes (DenotesKind (given_types by.entry.types) by.entry.depth
+        (Denotes (given_types by.entry.types) by.entry.depth depth) at (Some kind.now)
         (value_view value.now))
         made.old made.new) }
 {
@@ -401,7 +404,7 @@ pub(super) fn read_value(
     trail: &mut Trail,
 ) -> Result<(), Fault>
     requires { is_sound by.types.table.now ≡ true }
-    ensures { OnOk result (Makes (Denotes (seen by.entry.types) by.entry.depth depth of
+    ensures { OnOk result (Makes (Denotes (given_types by.entry.types) by.entry.depth depth of
         (value_view value.now)) made.old made.new) }
 {
     if depth == 0 {

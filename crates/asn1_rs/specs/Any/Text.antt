@@ -10,7 +10,7 @@ use Rattle.asn1_headers.specs.declared.error.Error.{Error}
 use Rattle.asn1_headers.specs.declared.error.Error.TheVariants.{StringInvalidCharset, UnexpectedTag}
 use Rattle.asn1_rs.specs.Checks.{CheckGives, ◌before◌, check, content_check}
 use Rattle.asn1_rs.specs.CodedStrings.{coded_leaf}
-use Rattle.asn1_rs.specs.Leaf.{Leaf, LeafGives, LeafTakes}
+use Rattle.asn1_rs.specs.Leaf.{Leaf, LeafGives, LeafConverts}
 
 -- The tag numbers of the types of strings whose contents octets are taken as UTF-8. They are Utf8String, NumericString,
 -- PrintableString, TeletexString, VideotexString, Ia5String, GraphicString, VisibleString and GeneralString.
@@ -44,4 +44,4 @@ GivesAnyText p (Ok text) =
     (utf8_checks p (Ok tt) × (cow_str_bytes text ≡ p.content) × IsBorrowedStr text) ⊎
     (LeafGives universal_text_leaf p (Ok text) × IsOwnedStr text)
 GivesAnyText p (Err e) =
-    ((p.id.number ≢ 28) × utf8_checks p (Err e)) ⊎ ((p.id.number ≡ 28) × LeafTakes universal_text_leaf p (Err e))
+    ((p.id.number ≢ 28) × utf8_checks p (Err e)) ⊎ ((p.id.number ≡ 28) × LeafConverts universal_text_leaf p (Err e))

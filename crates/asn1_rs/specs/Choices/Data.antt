@@ -4,8 +4,8 @@ use Rattle.std.proofs.Common.{refl, lit<}
 use Rattle.x690.specs.Octets.{IsOctets}
 use Rattle.x690.specs.Identifiers.{IsTruncatedIdentifier}
 use Rattle.x690.specs.Elements.{Parts, IsDerElement}
-use Rattle.asn1_headers.specs.Answers.{Front, Exactly, TellsMemory, IsOther}
-use Rattle.asn1_headers.specs.Error.{HeldIn}
+use Rattle.asn1_headers.specs.Answers.{HasPrefix, Exactly, TellsMemory, IsOther}
+use Rattle.asn1_headers.specs.Error.{ErrorIs}
 use Rattle.asn1_headers.specs.declared.error.Err.{Err as Refusal}
 use Rattle.asn1_headers.specs.declared.error.Err.TheVariants.{Error as refused}
 use Rattle.asn1_headers.specs.declared.error.Error.{Error}
@@ -18,7 +18,7 @@ use Rattle.asn1_rs.specs.Grammar.{TakesBody, Checks}
 use Rattle.asn1_rs.specs.Grammar.Item.{ItemGrammar}
 use Rattle.asn1_rs.specs.ToDer.{Writing}
 use Rattle.asn1_rs.specs.Choices.{ArmsGrammar, ChosenArm, no_arms, or_arms, or_chosen, none_chosen, choice_grammar}
-use Rattle.asn1_rs.specs.Choices.{choice_writing, is_among, NoArmRefusal, has_a_tag, numbers_of_tags}
+use Rattle.asn1_rs.specs.Choices.{choice_writing, is_tag_among, NoArmRefusal, has_a_tag, numbers_of_tags}
 use Rattle.asn1_rs.specs.Laws.Choices.{AreLawfulArms, AreLawfulPuts, no_arms_lawful, or_arms_lawful, no_puts, or_puts}
 use Rattle.asn1_rs.specs.Laws.Choices.{choice_lawful, choice_lawful_writing, clash, has_number_of}
 use Rattle.asn1_rs.specs.Laws.Structs.Rows.{first_holds, second_holds}
@@ -57,28 +57,29 @@ abbrev pub arm_before : {A B : Type 0} (class : ℕ) → LawfulTypeOf A → Lawf
 arm_before class T R = record {
   grammar = or_arms class T.number T.grammar R.grammar;
   arm_of = or_chosen T.grammar T.writing R.arm_of;
-  told = (T.single && (T.sound && nat_eq T.class class)) && (not (is_among class T.number R.grammar.tags) && R.told);
+  told = (T.single && (T.sound && nat_eq T.class class)) &&
+      (not (is_tag_among class T.number R.grammar.tags) && R.told);
   lawful = λ t.
       let all = first_holds (T.single && (T.sound && nat_eq T.class class))
-      (not (is_among class T.number R.grammar.tags) && R.told) t in
+      (not (is_tag_among class T.number R.grammar.tags) && R.told) t in
       let single = first_holds T.single (T.sound && nat_eq T.class class) all in
       let own = second_holds T.single (T.sound && nat_eq T.class class) all in
       let others = second_holds (T.single && (T.sound && nat_eq T.class class))
-      (not (is_among class T.number R.grammar.tags) && R.told) t in
+      (not (is_tag_among class T.number R.grammar.tags) && R.told) t in
       or_arms_lawful class T.number T.grammar R.grammar
       (T.lawful (first_holds T.sound (nat_eq T.class class) own)) T.class (T.numbered single) (T.classed single)
       (second_holds T.sound (nat_eq T.class class) own)
-      (R.lawful (second_holds (not (is_among class T.number R.grammar.tags)) R.told others))
-      (first_holds (not (is_among class T.number R.grammar.tags)) R.told others);
+      (R.lawful (second_holds (not (is_tag_among class T.number R.grammar.tags)) R.told others))
+      (first_holds (not (is_tag_among class T.number R.grammar.tags)) R.told others);
   puts = λ t.
       let all = first_holds (T.single && (T.sound && nat_eq T.class class))
-      (not (is_among class T.number R.grammar.tags) && R.told) t in
+      (not (is_tag_among class T.number R.grammar.tags) && R.told) t in
       let own = second_holds T.single (T.sound && nat_eq T.class class) all in
       let others = second_holds (T.single && (T.sound && nat_eq T.class class))
-      (not (is_among class T.number R.grammar.tags) && R.told) t in
+      (not (is_tag_among class T.number R.grammar.tags) && R.told) t in
       or_puts class T.number T.grammar R.grammar T.writing
       (T.written (first_holds T.sound (nat_eq T.class class) own)) R.arm_of
-      (R.puts (second_holds (not (is_among class T.number R.grammar.tags)) R.told others));
+      (R.puts (second_holds (not (is_tag_among class T.number R.grammar.tags)) R.told others));
 }
 
 -- A choice of these arms. They are told apart.
@@ -132,8 +133,8 @@ pub record AnswersByDer {T : Type 0} (G : ItemGrammar T) (tags : List (ℕ × �
     (answer : Result (List ℕ × T) (Refusal Error)) : Type 0 where
   pub exact : IsOctets input →
       Exactly IsTruncatedIdentifier G.Der G.value (TellsMemory G.allocates (λ (e f : Error). f ≡ e)) input answer
-  pub no_memory : G.allocates ≡ false → IfErr answer (HeldIn (IsOther (λ (e f : Error). f ≡ e)))
-  pub other : (p : Parts) (rest : List ℕ) → Front IsDerElement input p rest → has_a_tag tags p.id ≡ false →
+  pub no_memory : G.allocates ≡ false → IfErr answer (ErrorIs (IsOther (λ (e f : Error). f ≡ e)))
+  pub other : (p : Parts) (rest : List ℕ) → HasPrefix IsDerElement input p rest → has_a_tag tags p.id ≡ false →
       (e : Error) × NoArmRefusal tags p.id e × (answer ≡ Err (refused e))
 
 -- What the conversion of an element to one may answer.

@@ -76,16 +76,16 @@ boxed_choice held X = record {
 }
 
 -- the choice whose values are on the heap
-abbrev pub held_in : {C : Type 0} → Boxed C → C
-held_in b = b.held.value
+abbrev pub inner_of_box : {C : Type 0} → Boxed C → C
+inner_of_box b = b.held.value
 
 abbrev pub boxed : {C : Type 0} → LawfulChoiceOf C → LawfulChoiceOf (Boxed C)
-boxed X = boxed_choice held_in X
+boxed X = boxed_choice inner_of_box X
 
 module _ {T B : Type 0} (held : B → T) (X : LawfulChoiceOf T) (any : Any) where
   -- what the conversion to a value of the choice, and to one on the heap, may answer
-  abbrev pub Takes : Result T Error → Type 0
-  Takes = AnswersOf (grammar_of_choice X) X.arms.grammar.tags any
+  abbrev pub ConvertsOnHeap : Result T Error → Type 0
+  ConvertsOnHeap = AnswersOf (grammar_of_choice X) X.arms.grammar.tags any
 
   abbrev pub TakesBoxed : Result B Error → Type 0
   TakesBoxed = AnswersOf (grammar_of_choice (boxed_choice held X)) X.arms.grammar.tags any
@@ -94,7 +94,7 @@ module _ {T B : Type 0} (held : B → T) (X : LawfulChoiceOf T) (any : Any) wher
   never n = cc
 
   -- A value that was taken is taken on the heap,
-  pub boxed_taken : (b : B) → Takes (Ok (held b)) → TakesBoxed (Ok b)
+  pub boxed_taken : (b : B) → ConvertsOnHeap (Ok (held b)) → TakesBoxed (Ok b)
   boxed_taken b a = record {
     exact = λ o. a.exact o;
     no_memory = λ n. absurd (never n);
@@ -102,7 +102,7 @@ module _ {T B : Type 0} (held : B → T) (X : LawfulChoiceOf T) (any : Any) wher
   }
 
   -- or is out of memory.
-  pub boxed_memory : (x : T) → Takes (Ok x) → TakesBoxed (Err OutOfMemory)
+  pub boxed_memory : (x : T) → ConvertsOnHeap (Ok x) → TakesBoxed (Err OutOfMemory)
   boxed_memory x a = record {
     exact = λ o. inl (refl, refl);
     no_memory = λ n. absurd (never n);
@@ -110,7 +110,7 @@ module _ {T B : Type 0} (held : B → T) (X : LawfulChoiceOf T) (any : Any) wher
   }
 
   -- What is refused is refused so.
-  pub boxed_refused : (e : Error) → Takes (Err e) → TakesBoxed (Err e)
+  pub boxed_refused : (e : Error) → ConvertsOnHeap (Err e) → TakesBoxed (Err e)
   boxed_refused e a = record {
     exact = λ o. elim (a.exact o) [ inl memory ↦ inl (refl, memory.1) | inr none ↦ inr none ];
     no_memory = λ n. absurd (never n);

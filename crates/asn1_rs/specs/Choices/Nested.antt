@@ -5,14 +5,14 @@ use Rattle.std.proofs.Common.{inl, inr}
 use Rattle.asn1_rs.specs.Checks.{CheckGives}
 use Rattle.asn1_rs.specs.Grammar.Item.{ItemGrammar}
 use Rattle.asn1_rs.specs.Prelude.{has_a_tag}
-use Rattle.asn1_rs.specs.Choices.{ArmsGrammar, ChosenArm, InArm, ByTag, CheckByTag, is_among}
+use Rattle.asn1_rs.specs.Choices.{ArmsGrammar, ChosenArm, InArm, ByTag, CheckByTag, is_tag_among}
 use Rattle.asn1_rs.specs.declared.choices.nested.OrChoice.{OrChoice}
 use Rattle.asn1_rs.specs.declared.choices.nested.OrChoice.TheVariants as part
 
 -- none of the first tags is one of the second
 abbrev pub no_tag_in_common : List (ℕ × ℕ) → List (ℕ × ℕ) → Bool
 no_tag_in_common [] others = true
-no_tag_in_common (tag ∷ tags) others = not (is_among tag.0 tag.1 others) && no_tag_in_common tags others
+no_tag_in_common (tag ∷ tags) others = not (is_tag_among tag.0 tag.1 others) && no_tag_in_common tags others
 
 abbrev pub or_choice_value : {A B V W : Type 0} → (A → V) → (B → W) → OrChoice A B → V ⊎ W
 or_choice_value f g (part.This x) = inl (f x)

@@ -16,7 +16,7 @@ use Rattle.asn1_rs.specs.Laws.Tagged.Implicit.{implicit_checked, implicit_lawful
 use Rattle.asn1_rs.specs.Lists.{IsListOr}
 use Rattle.asn1_rs.specs.Structs.{StructGives}
 use Rattle.asn1_rs.specs.Structs.Data.{AnswersAlso, LawfulStructOf, grammar_of_struct}
-use Rattle.asn1_rs.specs.Tagged.Implicit.{ImplicitCheckGives, ImplicitTakes, implicit_grammar}
+use Rattle.asn1_rs.specs.Tagged.Implicit.{ImplicitCheckGives, ImplicitConverts, implicit_grammar}
 
 -- the tag of a struct
 abbrev pub struct_tag : Tag
@@ -27,10 +27,10 @@ abbrev pub tagged_struct : {T W : Type 0} (class number : ℕ) → (W → T) →
 tagged_struct class number inner X = implicit_grammar class number 16 inner (grammar_of_struct X)
 
 -- what its conversion may answer, where that of its fields answers so
-abbrev pub TakesTagged : {T W : Type 0} (class number : ℕ) → (W → T) → LawfulStructOf T →
+abbrev pub ConvertsTaggedStruct : {T W : Type 0} (class number : ℕ) → (W → T) → LawfulStructOf T →
     (List ℕ → Result T Error → Type 0) → Any → Result W Error → Type 0
-TakesTagged class number inner X gives =
-    ImplicitTakes class number inner struct_tag (StructGives (AnswersAlso by_ber X gives)) (λ (e f : Error). f ≡ e)
+ConvertsTaggedStruct class number inner X gives =
+    ImplicitConverts class number inner struct_tag (StructGives (AnswersAlso by_ber X gives)) (λ (e f : Error). f ≡ e)
 
 -- what its check may answer
 abbrev pub ChecksTagged : CheckGives
@@ -50,7 +50,7 @@ module _ {T W : Type 0} (class number : ℕ) (inner : W → T) (X : LawfulStruct
   module _ (gives : List ℕ → Result T Error → Type 0) where
     -- Its conversion is exact.
     pub tagged_exact : (any : Any) (answer : Result W Error) → IsOctets any.content.now →
-        TakesTagged class number inner X gives any answer →
+        ConvertsTaggedStruct class number inner X gives any answer →
         TakesBody (tagged_struct class number inner X).Body (tagged_struct class number inner X).value
         (grammar_of_struct X).allocates (λ (e f : Error). f ≡ e) (parts_of any) answer
     tagged_exact = implicit_takes class number inner struct_tag (StructGives (AnswersAlso by_ber X gives))
@@ -59,6 +59,6 @@ module _ {T W : Type 0} (class number : ℕ) (inner : W → T) (X : LawfulStruct
 
     -- It is not out of memory where no field allocates.
     pub tagged_never_oom : (grammar_of_struct X).allocates ≡ false → (any : Any) (e : Error) →
-        TakesTagged class number inner X gives any (Err e) → IsOther (λ (x y : Error). y ≡ x) e
+        ConvertsTaggedStruct class number inner X gives any (Err e) → IsOther (λ (x y : Error). y ≡ x) e
     tagged_never_oom none = implicit_takes_no_memory {W = W} class number inner struct_tag
         (StructGives (AnswersAlso by_ber X gives)) (λ (e f : Error). f ≡ e) (struct_never_oom by_ber X gives none)

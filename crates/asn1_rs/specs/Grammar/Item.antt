@@ -61,8 +61,8 @@ pub record IsLawfulWriting {S : Type 0} (G : ItemGrammar S) (w : Writing S) : Ty
   pub der_writable : (x : S) → G.IsDer (G.value x) → IsWritable w x
 
 -- what holds one item, and nothing else, has the values and grammars of that item
-abbrev pub by_held : {S T : Type 0} → (T → S) → ItemGrammar S → ItemGrammar T
-by_held held G = record {
+abbrev pub by_inner : {S T : Type 0} → (T → S) → ItemGrammar S → ItemGrammar T
+by_inner held G = record {
   Value = G.Value;
   value = λ x. G.value (held x);
   IsValue = G.IsValue;

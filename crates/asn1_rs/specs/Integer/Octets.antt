@@ -13,8 +13,8 @@ use Rattle.asn1_rs.specs.Integer.{integer_number, IntegerCheckGives}
 use Rattle.asn1_rs.specs.Leaf.{Leaf}
 
 -- the contents octets, as they are held
-abbrev pub octets_held : Integer → CowSlice ℕ Global
-octets_held x = x.octets
+abbrev pub content_slice : Integer → CowSlice ℕ Global
+content_slice x = x.octets
 
 -- the contents octets, borrowed or owned
 abbrev pub integer_octets : Integer → List ℕ
@@ -44,6 +44,6 @@ any_integer_leaf = record {
 }
 
 -- one that holds the strict contents octets of the number, or that memory was refused
-abbrev pub HoldsOr : ℤ → Result Integer Error → Type 0
-HoldsOr n (Ok x) = IsIntegerContent n (integer_octets x)
-HoldsOr n (Err e) = e ≡ OutOfMemory
+abbrev pub HasContentOr : ℤ → Result Integer Error → Type 0
+HasContentOr n (Ok x) = IsIntegerContent n (integer_octets x)
+HasContentOr n (Err e) = e ≡ OutOfMemory

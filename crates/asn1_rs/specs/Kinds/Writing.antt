@@ -3,7 +3,7 @@ use Rattle.std.specs.Prelude.{ℕ, Bool, true, false, List, length, take, ◌≡
 use Rattle.std.specs.List.{All, flat_map}
 use Rattle.x690.specs.Strict.{header_octets}
 use Rattle.x690.specs.Identifiers.{Identifier}
-use Rattle.asn1_rs.specs.Grammar.Form.{universal}
+use Rattle.asn1_rs.specs.Grammar.Form.{of_universal_class}
 use Rattle.asn1_rs.specs.Grammar.{FormTakes}
 use Rattle.asn1_headers.specs.Tag.{is_container_number}
 use Rattle.asn1_rs.specs.declared.kinds.writing.Piece.{Piece}
@@ -24,7 +24,7 @@ universal_header number content = header_octets 0 (is_container_number number) n
 
 -- the strict identifier of the universal class with this number, constructed for sequences and sets alone
 abbrev pub universal_identifier : ℕ → Identifier
-universal_identifier number = universal (is_container_number number) number
+universal_identifier number = of_universal_class (is_container_number number) number
 
 -- A count of so many octets: its length alone refuses it, or the value does, with a refusal of its own.
 abbrev pub CountRefused : Bool → (Error → Type 0) → ℕ → Result ℕ Error → Type 0

@@ -1,4 +1,6 @@
 -- What readers of elements and of contents octets say of more octets, and that they have one refusal.
+pub mod Decoded
+pub mod Kept
 pub mod Text
 pub mod Value
 pub mod Writing
@@ -20,7 +22,7 @@ use Rattle.asn1_headers.specs.declared.error.Error.TheVariants.{InvalidTag}
 use Rattle.asn1_headers.specs.Error.{Converted}
 use Rattle.asn1_headers.specs.declared.error.Error.{Error}
 use Rattle.asn1_rs.specs.declared.asn1_types.any.Any.{Any}
-use Rattle.asn1_headers.specs.Answers.{Front, TellsBeginning}
+use Rattle.asn1_headers.specs.Answers.{HasPrefix, TellsBeginning}
 use Rattle.asn1_headers.specs.declared.header.Header.{Header}
 use Rattle.asn1_headers.specs.Header.Reading.{refusal_of, der_refusal, ber_refusal, KeepsIdentifier}
 use Rattle.asn1_headers.specs.Header.{identifier_of, KeepsLent}
@@ -29,7 +31,7 @@ use Rattle.asn1_rs.specs.Any.{AnyGives, BeginsWithAny, IsTheElement, IsDefiniteO
 use Rattle.asn1_rs.specs.Any.{DerElementGives, ElementLasts, RefusalLasts}
 use Rattle.asn1_rs.specs.Laws.Any.Value.{the_element_parts}
 use Rattle.asn1_rs.specs.Traits.{BerGives, DerGives}
-use Rattle.asn1_rs.specs.Laws.Readers.{AreElements, speaks_itself, speaks_now}
+use Rattle.asn1_rs.specs.Laws.Readers.{AreLawfulElements, speaks_itself, refusal_speaks_now}
 use Rattle.asn1_headers.specs.Content.{ContentStays}
 
 -- Readers of elements.
@@ -42,7 +44,7 @@ tells_beginning at fault r ends_within more e (inl l) = inl (l.0, e ∙ ap (refu
 tells_beginning at fault r ends_within more e (inr c) = inr (e ∙ ap (refusal_of at) c.0, c.1)
 
 module _ (ElementOf : List ℕ → Parts → Type 0) (FaultOf : List ℕ → Fault → Type 0) (IsTruncated : List ℕ → Type 0)
-    (elements : AreElements ElementOf FaultOf IsTruncated) (refuses : Violation → Error) where
+    (elements : AreLawfulElements ElementOf FaultOf IsTruncated) (refuses : Violation → Error) where
   -- what such a reader may answer
   abbrev Gives : List ℕ → Result (List ℕ × Any) (Refusal Error) → Type 0
   Gives = AnyGives ElementOf FaultOf (refusal_of refuses)
@@ -87,7 +89,7 @@ module _ (ElementOf : List ℕ → Parts → Type 0) (FaultOf : List ℕ → Fau
   pub element_or_refusal : (input : List ℕ) (x : List ℕ × Any) (r : Refusal Error) → Gives input (Ok x) →
       Gives input (Err r) → ⊥
   element_or_refusal input x r f g = refusal_lasts input r g [] f.front.word x.0 (parts_of x.1)
-      (speaks_now (IsTruncated input) r) f.front.fits (append-nil input ∙ f.front.is)
+      (refusal_speaks_now (IsTruncated input) r) f.front.fits (append-nil input ∙ f.front.is)
 
 -- Readers of contents octets.
 
@@ -182,7 +184,7 @@ same_begins : (ElementOf : List ℕ → Parts → Type 0) (input rest : List ℕ
     IsTheElement any (Ok same) → BeginsWithAny ElementOf input any rest →
     BeginsWithAny ElementOf input same rest
 same_begins ElementOf input rest any same h b = record {
-  front = subst (λ (p : Parts). Front ElementOf input p rest) (sym (the_element_parts any same h)) b.front;
+  front = subst (λ (p : Parts). HasPrefix ElementOf input p rest) (sym (the_element_parts any same h)) b.front;
   kept = subst (KeepsIdentifier input) (sym h.0) b.kept;
 }
 

@@ -13,13 +13,13 @@ use Rattle.asn1_headers.specs.declared.error.Err.{Err as Refusal}
 use Rattle.asn1_headers.specs.declared.error.Error.{Error}
 use Rattle.asn1_headers.specs.declared.header.Header.{Header}
 use Rattle.asn1_rs.specs.declared.asn1_types.any.Any.{Any}
-use Rattle.asn1_headers.specs.Answers.{Front, Exactly, RefusedAsBeginning, RefusedBeforeEnd}
+use Rattle.asn1_headers.specs.Answers.{HasPrefix, Exactly, RefusedAsBeginning, RefusedBeforeEnd}
 use Rattle.asn1_rs.specs.Any.{AnyGives, parts_of}
 use Rattle.asn1_headers.specs.Header.Reading.{refusal_of, HeaderGives}
 use Rattle.asn1_headers.specs.Header.{identifier_of}
 use Rattle.asn1_headers.specs.Length.{form_of}
 use Rattle.asn1_rs.specs.Laws.Any.{beginning_refused}
-use Rattle.asn1_rs.specs.Laws.Readers.{AreElements}
+use Rattle.asn1_rs.specs.Laws.Readers.{AreLawfulElements}
 use Rattle.asn1_rs.specs.Laws.Header.{header_beginning_refused}
 
 -- what begins an input is no longer than it
@@ -35,22 +35,23 @@ moved input more front left word rest e h =
     sym (append_assoc front left more) ∙ ap (λ (ys : List ℕ). ys ++ more) (sym e) ∙ h
 
 -- No word begins octets that are shorter than a word that more of them make.
-pub no_front_of_beginning : {V : Type 0} (G : List ℕ → V → Type 0) → IsPrefixFree G →
-    (input more word rest left : List ℕ) (v w : V) → Front G input v left → G word w → input ++ more ≡ word ++ rest →
+pub no_prefix_of_beginning : {V : Type 0} (G : List ℕ → V → Type 0) → IsPrefixFree G →
+    (input more word rest left : List ℕ) (v w : V) → HasPrefix G input v left → G word w → input ++ more ≡ word ++
+    rest →
     length input < length word → ⊥
-no_front_of_beginning G one input more word rest left v w f g e l =
+no_prefix_of_beginning G one input more word rest left v w f g e l =
     let same : (f.word ≡ word) × (v ≡ w) =
     one.one f.word word (left ++ more) rest v w f.fits g (moved input more f.word left word rest f.is e) in
     no_longer input more f.word left word rest f.is same.0 l
 
 -- Octets shorter than an element that more of them make are refused as its beginning.
 pub beginning_is_refused : (ElementOf : List ℕ → Parts → Type 0) (FaultOf : List ℕ → Fault → Type 0)
-    (IsTruncated : List ℕ → Type 0) → AreElements ElementOf FaultOf IsTruncated → (refuses : Violation → Error) →
+    (IsTruncated : List ℕ → Type 0) → AreLawfulElements ElementOf FaultOf IsTruncated → (refuses : Violation → Error) →
     (input more word rest : List ℕ) (p : Parts) (answer : Result (List ℕ × Any) (Refusal Error)) →
     AnyGives ElementOf FaultOf (refusal_of refuses) input answer → ElementOf word p → input ++ more ≡ word ++ rest →
     length input < length word → RefusedAsBeginning (IsTruncated input) more answer
 beginning_is_refused ElementOf FaultOf IsTruncated elements at input more word rest p (Ok x) g a e l =
-    absurd (no_front_of_beginning ElementOf elements.one input more word rest x.0 (parts_of x.1) p g.front a e l)
+    absurd (no_prefix_of_beginning ElementOf elements.one input more word rest x.0 (parts_of x.1) p g.front a e l)
 beginning_is_refused ElementOf FaultOf IsTruncated elements at input more word rest p (Err r) g a e l =
     beginning_refused ElementOf FaultOf IsTruncated elements at input more word rest p r g a e
 
@@ -73,7 +74,7 @@ pub word_beginning_is_refused : {T V E : Type 0} (IsTruncated : List ℕ → Typ
     (more word rest : List ℕ) (v : V) → G word v → input ++ more ≡ word ++ rest → length input < length word →
     RefusedBeforeEnd memory (IsTruncated input) more answer
 word_beginning_is_refused IsTruncated G value memory one input (Ok x) f more word rest v g e l =
-    absurd (no_front_of_beginning G one input more word rest x.0 (value x.1) v f g e l)
+    absurd (no_prefix_of_beginning G one input more word rest x.0 (value x.1) v f g e l)
 word_beginning_is_refused IsTruncated G value memory one input (Err r) (inl m) more word rest v g e l = inl m
 word_beginning_is_refused IsTruncated G value memory one input (Err r) (inr final) more word rest v g e l =
     inr (λ s. final more s word rest v e g)

@@ -14,7 +14,8 @@ use Rattle.x690.specs.Octets.{IsOctets}
 use Rattle.asn1_rs.specs.declared.asn1_types.bit_string.BitString.{BitString}
 use Rattle.asn1_rs.specs.Checks.{IsCheck, is_primitive, has_content}
 use Rattle.asn1_rs.specs.Leaf.{IsLawfulLeaf}
-use Rattle.asn1_rs.specs.BitString.{Bits, Bits-set, bit_of, bits_of, bits_in, data_of, HasZeroUnused, AreStrictBits}
+use Rattle.asn1_rs.specs.BitString.{Bits, Bits-set, bit_of, bits_of_content, bits_of_string, data_of, HasZeroUnused}
+use Rattle.asn1_rs.specs.BitString.{AreStrictBits}
 use Rattle.asn1_rs.specs.BitString.{bit_string_constraints, bit_string_leaf}
 use Rattle.asn1_rs.specs.Laws.Checks.{before_is, has_content_is, is_primitive_is, content_check_is}
 use Rattle.x690.specs.Laws.Equality.{octets_set}
@@ -99,7 +100,7 @@ bit_string_lawful = record {
   small = lit< tt;
   checks = has_content_is;
   constraints = constraints_are;
-  one_value = λ c v w a b. ap bits_of (sym a ∙ b);
+  one_value = λ c v w a b. ap bits_of_content (sym a ∙ b);
   says_value = λ p v o m s. let octets = subst IsOctets s o.content in (octets 0, λ k. octets (suc k));
   der_value = λ v d. (few v d, d.octets);
   der_octets = λ v d. counted_octets v.unused v.octets (few v d) d.octets;
@@ -113,21 +114,23 @@ bit_string_lawful = record {
 
 -- bit strings are equal where their counts and their octets are
 pub bit_string_equal : (x y : BitString) →
-    IsTrue (nat_eq x.unused_bits y.unused_bits && pointwise nat_eq (data_of x) (data_of y)) ↔ (bits_in x ≡ bits_in y)
+    IsTrue (nat_eq x.unused_bits y.unused_bits && pointwise nat_eq (data_of x) (data_of y)) ↔
+    (bits_of_string x ≡ bits_of_string y)
 bit_string_equal x y = (to, from)
   where
     octets : Decides (pointwise nat_eq (data_of x) (data_of y)) (data_of x ≡ data_of y)
     octets = pointwise_decides unsigned_Decides (data_of x) (data_of y)
 
-    to : IsTrue (nat_eq x.unused_bits y.unused_bits && pointwise nat_eq (data_of x) (data_of y)) → bits_in x ≡ bits_in y
+    to : IsTrue (nat_eq x.unused_bits y.unused_bits && pointwise nat_eq (data_of x) (data_of y)) →
+        bits_of_string x ≡ bits_of_string y
     to h =
         let both = and_parts (nat_eq x.unused_bits y.unused_bits) (pointwise nat_eq (data_of x) (data_of y)) h in
         let octets : x.unused_bits ∷ data_of x ≡ y.unused_bits ∷ data_of y =
         ap (λ (n : ℕ). n ∷ data_of x) ((unsigned_Decides x.unused_bits y.unused_bits).0 both.0)
         ∙ ap (λ (c : List ℕ). y.unused_bits ∷ c) (octets.0 both.1) in
-        ap bits_of octets
+        ap bits_of_content octets
 
-    from : bits_in x ≡ bits_in y →
+    from : bits_of_string x ≡ bits_of_string y →
         IsTrue (nat_eq x.unused_bits y.unused_bits && pointwise nat_eq (data_of x) (data_of y))
     from e = and_from _ _ ((unsigned_Decides x.unused_bits y.unused_bits).1 (ap (λ (v : Bits). v.unused) e))
         (octets.1 (ap (λ (v : Bits). v.octets) e))

@@ -9,7 +9,7 @@ use Rattle.asn1_rs.specs.Checks.{IsCheck, has_content}
 use Rattle.x690.specs.Strict.{header_octets, identifier_octets, length_octets}
 use Rattle.asn1_rs.specs.Leaf.{IsLawfulLeaf, leaf_element}
 use Rattle.asn1_rs.specs.declared.asn1_types.boolean.Boolean.{Boolean}
-use Rattle.asn1_rs.specs.Boolean.{boolean_number, boolean_leaf, bool_leaf, truth_octet, says_true, IsStrictTruth}
+use Rattle.asn1_rs.specs.Boolean.{boolean_number, boolean_leaf, bool_leaf, truth_octet, says_true, IsStrictTruthOctet}
 use Rattle.asn1_rs.specs.Boolean.{IsOtherTruth, truth_constraints, truth_octets, truth_writing}
 use Rattle.asn1_rs.specs.Laws.Checks.{check_is, before_is, has_length_is, has_content_is}
 use Rattle.asn1_rs.specs.Laws.Leaf.{leaf_written}
@@ -26,7 +26,7 @@ one_octet : (n : ℕ) → n < 256 → IsOctets (n ∷ [])
 one_octet n h = below_octets (n ∷ []) (h, tt)
 
 -- no octet is strict and not
-truth_apart : (octet : ℕ) → IsStrictTruth octet → IsOtherTruth octet → ⊥
+truth_apart : (octet : ℕ) → IsStrictTruthOctet octet → IsOtherTruth octet → ⊥
 truth_apart octet (inl a) b = b.0 a
 truth_apart octet (inr a) b = b.1 a
 
@@ -37,7 +37,7 @@ truth_constraints_are = before_is has_content _ has_content_is (check_is _ _ _ (
 -- The laws.
 
 -- the strict octet of what a strict octet says is that octet
-pub strict_truth : (octet : ℕ) → IsStrictTruth octet → truth_octet (says_true octet) ≡ octet
+pub strict_truth : (octet : ℕ) → IsStrictTruthOctet octet → truth_octet (says_true octet) ≡ octet
 strict_truth octet (inl a) = rw a refl
 strict_truth octet (inr a) = rw a refl
 
@@ -55,10 +55,10 @@ boolean_lawful = record {
       λ v d. one_octet (truth_octet (says_true v)) (subst (λ (n : ℕ). n < 256) (sym (strict_truth v d)) (small v d));
   der_says = λ v d. ap (λ (n : ℕ). n ∷ []) (strict_truth v d);
   der_checks = λ k v d. (refl, refl);
-  der_constraints = λ k v d. ((λ e. cc), subst IsStrictTruth (sym (strict_truth v d)) d);
+  der_constraints = λ k v d. ((λ e. cc), subst IsStrictTruthOctet (sym (strict_truth v d)) d);
 }
   where
-    small : (v : ℕ) → IsStrictTruth v → v < 256
+    small : (v : ℕ) → IsStrictTruthOctet v → v < 256
     small v (inl e) = omega (arith, e)
     small v (inr e) = omega (arith, e)
 
@@ -89,7 +89,7 @@ bool_lawful = record {
     says true = (255, refl, refl)
     says false = (0, refl, refl)
 
-    strict : (v : Bool) → IsStrictTruth (truth_octet v)
+    strict : (v : Bool) → IsStrictTruthOctet (truth_octet v)
     strict true = inr refl
     strict false = inl refl
 

@@ -1,4 +1,5 @@
 -- Arms that are told apart are lawful, and so is a choice of them.
+pub mod InHand
 pub mod Nested
 pub mod Readers
 use Rattle.std.proofs.Common.{◌≡◌, ◌≢◌, ◌∙◌, ap, sym, subst, refl, arith, ℕ, ◌<◌, ◌^◌, inl, inr, ◌⊎◌, Bool, true, false, List}
@@ -15,8 +16,8 @@ use Rattle.x690.specs.Elements.{Parts, ArePossible, IsDerElement}
 use Rattle.x690.specs.Faults.{DerElementFault}
 use Rattle.x690.specs.Joined.{IsPrefixFree}
 use Rattle.x690.specs.Laws.StrictElements.{der_allows_strict}
-use Rattle.asn1_headers.specs.Answers.{Front, Exactly, TellsMemory, IsOther, Speaks}
-use Rattle.asn1_headers.specs.Error.{HeldIn}
+use Rattle.asn1_headers.specs.Answers.{HasPrefix, Exactly, TellsMemory, IsOther, Speaks}
+use Rattle.asn1_headers.specs.Error.{ErrorIs}
 use Rattle.asn1_headers.specs.Header.Reading.{der_violation}
 use Rattle.asn1_headers.specs.declared.error.Err.{Err as Refusal}
 use Rattle.asn1_headers.specs.declared.error.Error.{Error}
@@ -30,7 +31,8 @@ use Rattle.asn1_rs.specs.Grammar.Item.{ItemGrammar, IsLawfulItem, IsLawfulWritin
 use Rattle.asn1_rs.specs.Laws.Readers.{der_elements}
 use Rattle.asn1_rs.specs.Laws.Words.{strict_element}
 use Rattle.asn1_rs.specs.ToDer.{Writing, HasNone, IsWritable, IntoVector}
-use Rattle.asn1_rs.specs.Choices.{ArmsGrammar, ChosenArm, chosen, InArm, ByTag, CheckByTag, has_tag, has_a_tag, has_a_class, is_among}
+use Rattle.asn1_rs.specs.Choices.{ArmsGrammar, ChosenArm, chosen, InArm, ByTag, CheckByTag, is_of_tag, has_a_tag}
+use Rattle.asn1_rs.specs.Choices.{has_a_class, is_tag_among}
 use Rattle.asn1_rs.specs.Choices.{no_arms, or_arms, or_value, or_chosen, no_value, none_chosen, choice_grammar, ChoiceWord}
 use Rattle.asn1_rs.specs.Choices.{choice_writing, arm_tells, arm_header, arm_content, arm_constructed, arm_count_refuses}
 use Rattle.asn1_rs.specs.Choices.{arm_header_refuses, arm_content_refuses, numbers_of_tags}
@@ -75,33 +77,33 @@ or_either true b e = inl refl
 or_either false b e = inr e
 
 -- an identifier of this class and number has the tag, and no other has
-tagged_by : (class number : ℕ) (i : Identifier) → i.class ≡ class → i.number ≡ number → has_tag class number i ≡ true
+tagged_by : (class number : ℕ) (i : Identifier) → i.class ≡ class → i.number ≡ number → is_of_tag class number i ≡ true
 tagged_by class number i p q = both_hold (nat_eq i.class class) (nat_eq i.number number) (eq-eqb i.class class p)
     (eq-eqb i.number number q)
 
-pub class_by : (class number : ℕ) (i : Identifier) → has_tag class number i ≡ true → i.class ≡ class
+pub class_by : (class number : ℕ) (i : Identifier) → is_of_tag class number i ≡ true → i.class ≡ class
 class_by class number i e = eqb-true i.class class (first_of (nat_eq i.class class) (nat_eq i.number number) e)
 
-number_by : (class number : ℕ) (i : Identifier) → has_tag class number i ≡ true → i.number ≡ number
+number_by : (class number : ℕ) (i : Identifier) → is_of_tag class number i ≡ true → i.number ≡ number
 number_by class number i e = eqb-true i.number number (second_of (nat_eq i.class class) (nat_eq i.number number) e)
 
 -- what has one of the tags and has this one makes this one of them
-among_them : (class number : ℕ) (tags : List (ℕ × ℕ)) (i : Identifier) → has_tag class number i ≡ true →
-    has_a_tag tags i ≡ true → is_among class number tags ≡ true
+among_them : (class number : ℕ) (tags : List (ℕ × ℕ)) (i : Identifier) → is_of_tag class number i ≡ true →
+    has_a_tag tags i ≡ true → is_tag_among class number tags ≡ true
 among_them class number [] i own e = absurd (clash true refl (sym e))
-among_them class number (tag ∷ tags) i own e = elim (or_either (has_tag tag.0 tag.1 i) (has_a_tag tags i) e) [
-  | inl first ↦ or_first (nat_eq class tag.0 && nat_eq number tag.1) (is_among class number tags)
+among_them class number (tag ∷ tags) i own e = elim (or_either (is_of_tag tag.0 tag.1 i) (has_a_tag tags i) e) [
+  | inl first ↦ or_first (nat_eq class tag.0 && nat_eq number tag.1) (is_tag_among class number tags)
       (both_hold (nat_eq class tag.0) (nat_eq number tag.1)
       (eq-eqb class tag.0 (sym (class_by class number i own) ∙ class_by tag.0 tag.1 i first))
       (eq-eqb number tag.1 (sym (number_by class number i own) ∙ number_by tag.0 tag.1 i first)))
-  | inr others ↦ or_second (nat_eq class tag.0 && nat_eq number tag.1) (is_among class number tags)
+  | inr others ↦ or_second (nat_eq class tag.0 && nat_eq number tag.1) (is_tag_among class number tags)
       (among_them class number tags i own others)
 ]
 
 -- what has one of the tags has one of their classes
 pub has_class_of : (tags : List (ℕ × ℕ)) (i : Identifier) → has_a_tag tags i ≡ true → has_a_class tags i.class ≡ true
 has_class_of [] i e = e
-has_class_of (tag ∷ tags) i e = elim (or_either (has_tag tag.0 tag.1 i) (has_a_tag tags i) e) [
+has_class_of (tag ∷ tags) i e = elim (or_either (is_of_tag tag.0 tag.1 i) (has_a_tag tags i) e) [
   | inl first ↦ or_first (nat_eq i.class tag.0) (has_a_class tags i.class)
       (eq-eqb i.class tag.0 (class_by tag.0 tag.1 i first))
   | inr others ↦ or_second (nat_eq i.class tag.0) (has_a_class tags i.class) (has_class_of tags i others)
@@ -111,7 +113,7 @@ has_class_of (tag ∷ tags) i e = elim (or_either (has_tag tag.0 tag.1 i) (has_a
 pub has_number_of : (tags : List (ℕ × ℕ)) (i : Identifier) → has_a_tag tags i ≡ true →
     is_one_of i.number (numbers_of_tags tags) ≡ true
 has_number_of [] i e = e
-has_number_of (tag ∷ tags) i e = elim (or_either (has_tag tag.0 tag.1 i) (has_a_tag tags i) e) [
+has_number_of (tag ∷ tags) i e = elim (or_either (is_of_tag tag.0 tag.1 i) (has_a_tag tags i) e) [
   | inl first ↦ or_first (nat_eq tag.1 i.number) (is_one_of i.number (numbers_of_tags tags))
       (eq-eqb tag.1 i.number (sym (number_by tag.0 tag.1 i first)))
   | inr others ↦ or_second (nat_eq tag.1 i.number) (is_one_of i.number (numbers_of_tags tags))
@@ -191,97 +193,102 @@ module _ {A B : Type 0} (class number : ℕ) (G : ItemGrammar A) (H : ArmsGramma
 
   module _ (l : IsLawfulItem G) (own : ℕ) (numbered : FormNumber G.Form number)
       (classed : (v : G.Value) (i : Identifier) (c : List ℕ) → G.Form v i c → i.class ≡ own)
-      (of_class : nat_eq own class ≡ true) (m : AreLawfulArms H) (apart : not (is_among class number H.tags) ≡ true) where
-    -- the strict parts of the first arm have its tag, and those of the others have not
-    own_tag : (v : G.Value) (i : Identifier) (c : List ℕ) → G.Form v i c → has_tag class number i ≡ true
-    own_tag v i c f = tagged_by class number i (classed v i c f ∙ eqb-true own class of_class) (numbered v i c f)
+      (of_class : nat_eq own class ≡ true) (m : AreLawfulArms H) (apart : not (is_tag_among class number H.tags) ≡ true)
+    where
+      -- the strict parts of the first arm have its tag, and those of the others have not
+      own_tag : (v : G.Value) (i : Identifier) (c : List ℕ) → G.Form v i c → is_of_tag class number i ≡ true
+      own_tag v i c f = tagged_by class number i (classed v i c f ∙ eqb-true own class of_class) (numbered v i c f)
 
-    other_tag : (w : H.Value) (i : Identifier) (c : List ℕ) → H.Form w i c → has_tag class number i ≡ false
-    other_tag w i c f = not_true (has_tag class number i) (λ e.
-        clash (is_among class number H.tags) (among_them class number H.tags i e (m.tagged w i c f))
-        (not_so (is_among class number H.tags) apart))
+      other_tag : (w : H.Value) (i : Identifier) (c : List ℕ) → H.Form w i c → is_of_tag class number i ≡ false
+      other_tag w i c f = not_true (is_of_tag class number i) (λ e.
+          clash (is_tag_among class number H.tags) (among_them class number H.tags i e (m.tagged w i c f))
+          (not_so (is_tag_among class number H.tags) apart))
 
-    der_are : (i : Identifier) (o : List ℕ) (v : Arms.Value) → Arms.Der i o v → (p : Parts) × IsDerElement o p
-    der_are i o (inl v) d = l.der_element o v d.1
-    der_are i o (inr v) d = m.der_element i o v d.1
+      der_are : (i : Identifier) (o : List ℕ) (v : Arms.Value) → Arms.Der i o v → (p : Parts) × IsDerElement o p
+      der_are i o (inl v) d = l.der_element o v d.1
+      der_are i o (inr v) d = m.der_element i o v d.1
 
-    der_values : (i : Identifier) (o : List ℕ) (v : Arms.Value) → Arms.Der i o v → Arms.IsValue v
-    der_values i o (inl v) d = l.der_values o v d.1
-    der_values i o (inr v) d = m.der_values i o v d.1
+      der_values : (i : Identifier) (o : List ℕ) (v : Arms.Value) → Arms.Der i o v → Arms.IsValue v
+      der_values i o (inl v) d = l.der_values o v d.1
+      der_values i o (inr v) d = m.der_values i o v d.1
 
-    body_values : (p : Parts) (v : Arms.Value) → ArePossible p → Arms.Body p v → Arms.IsValue v
-    body_values p (inl v) k b = l.body_values p v k b.1
-    body_values p (inr v) k b = m.body_values p v k b.1
+      body_values : (p : Parts) (v : Arms.Value) → ArePossible p → Arms.Body p v → Arms.IsValue v
+      body_values p (inl v) k b = l.body_values p v k b.1
+      body_values p (inr v) k b = m.body_values p v k b.1
 
-    form_values : HasValues Arms.Form Arms.IsValue
-    form_values (inl v) i c f = l.form_values v i c f
-    form_values (inr v) i c f = m.form_values v i c f
+      form_values : HasValues Arms.Form Arms.IsValue
+      form_values (inl v) i c f = l.form_values v i c f
+      form_values (inr v) i c f = m.form_values v i c f
 
-    body_one : IsOneBody Arms.Body
-    body_one p (inl v) (inl w) a b = ap inl (l.body_one p v w a.1 b.1)
-    body_one p (inl v) (inr w) a b = absurd (clash (has_tag class number p.id) a.0 b.0)
-    body_one p (inr v) (inl w) a b = absurd (clash (has_tag class number p.id) b.0 a.0)
-    body_one p (inr v) (inr w) a b = ap inr (m.body_one p v w a.1 b.1)
+      body_one : IsOneBody Arms.Body
+      body_one p (inl v) (inl w) a b = ap inl (l.body_one p v w a.1 b.1)
+      body_one p (inl v) (inr w) a b = absurd (clash (is_of_tag class number p.id) a.0 b.0)
+      body_one p (inr v) (inl w) a b = absurd (clash (is_of_tag class number p.id) b.0 a.0)
+      body_one p (inr v) (inr w) a b = ap inr (m.body_one p v w a.1 b.1)
 
-    one_form : IsOneForm Arms.Form
-    one_form (inl v) i j c d f g = l.one_form v i j c d f g
-    one_form (inr v) i j c d f g = m.one_form v i j c d f g
+      one_form : IsOneForm Arms.Form
+      one_form (inl v) i j c d f g = l.one_form v i j c d f g
+      one_form (inr v) i j c d f g = m.one_form v i j c d f g
 
-    one_value : IsOneValue Arms.Form
-    one_value (inl v) (inl w) i c f g = ap inl (l.one_value v w i c f g)
-    one_value (inl v) (inr w) i c f g = absurd (clash (has_tag class number i) (own_tag v i c f) (other_tag w i c g))
-    one_value (inr v) (inl w) i c f g = absurd (clash (has_tag class number i) (own_tag w i c g) (other_tag v i c f))
-    one_value (inr v) (inr w) i c f g = ap inr (m.one_value v w i c f g)
+      one_value : IsOneValue Arms.Form
+      one_value (inl v) (inl w) i c f g = ap inl (l.one_value v w i c f g)
+      one_value (inl v) (inr w) i c f g = absurd (clash (is_of_tag class number i) (own_tag v i c f) (other_tag w i c g))
+      one_value (inr v) (inl w) i c f g = absurd (clash (is_of_tag class number i) (own_tag w i c g) (other_tag v i c f))
+      one_value (inr v) (inr w) i c f g = ap inr (m.one_value v w i c f g)
 
-    form_fits : FitsElement Arms.Form
-    form_fits (inl v) i c f = l.form_fits v i c f
-    form_fits (inr v) i c f = m.form_fits v i c f
+      form_fits : FitsElement Arms.Form
+      form_fits (inl v) i c f = l.form_fits v i c f
+      form_fits (inr v) i c f = m.form_fits v i c f
 
-    form_check : FormChecks Arms.Form Arms.Check
-    form_check (inl v) i c f = check_this (has_tag class number i) (G.Check (made i c)) (H.Check (made i c)) (own_tag v i c f) (l.form_check v i c f)
-    form_check (inr v) i c f = check_other (has_tag class number i) (G.Check (made i c)) (H.Check (made i c)) (other_tag v i c f) (m.form_check v i c f)
+      form_check : FormChecks Arms.Form Arms.Check
+      form_check (inl v) i c f =
+          check_this (is_of_tag class number i) (G.Check (made i c)) (H.Check (made i c)) (own_tag v i c f)
+          (l.form_check v i c f)
+      form_check (inr v) i c f =
+          check_other (is_of_tag class number i) (G.Check (made i c)) (H.Check (made i c)) (other_tag v i c f)
+          (m.form_check v i c f)
 
-    form_der : HasValues Arms.Form Arms.IsDer
-    form_der (inl v) i c f = l.form_der v i c f
-    form_der (inr v) i c f = m.form_der v i c f
+      form_der : HasValues Arms.Form Arms.IsDer
+      form_der (inl v) i c f = l.form_der v i c f
+      form_der (inr v) i c f = m.form_der v i c f
 
-    form_body : FormBodies Arms.Form Arms.Body
-    form_body (inl v) i c f = (own_tag v i c f, l.form_body v i c f)
-    form_body (inr v) i c f = (other_tag v i c f, m.form_body v i c f)
+      form_body : FormBodies Arms.Form Arms.Body
+      form_body (inl v) i c f = (own_tag v i c f, l.form_body v i c f)
+      form_body (inr v) i c f = (other_tag v i c f, m.form_body v i c f)
 
-    abbrev strict_this : (v : G.Value) (o : List ℕ) (s : IsStrict Arms.Form (inl v) o) → IsStrict G.Form v o
-    strict_this v o s = record { id = s.id; content = s.content; form = s.form; element = s.element }
+      abbrev strict_this : (v : G.Value) (o : List ℕ) (s : IsStrict Arms.Form (inl v) o) → IsStrict G.Form v o
+      strict_this v o s = record { id = s.id; content = s.content; form = s.form; element = s.element }
 
-    abbrev strict_other : (v : H.Value) (o : List ℕ) (s : IsStrict Arms.Form (inr v) o) → IsStrict H.Form v o
-    strict_other v o s = record { id = s.id; content = s.content; form = s.form; element = s.element }
+      abbrev strict_other : (v : H.Value) (o : List ℕ) (s : IsStrict Arms.Form (inr v) o) → IsStrict H.Form v o
+      strict_other v o s = record { id = s.id; content = s.content; form = s.form; element = s.element }
 
-    strict_der : (v : Arms.Value) (o : List ℕ) (s : IsStrict Arms.Form v o) → Arms.Der s.id o v
-    strict_der (inl v) o s = (own_tag v s.id s.content s.form, l.strict_der v o (strict_this v o s))
-    strict_der (inr v) o s = (other_tag v s.id s.content s.form, m.strict_der v o (strict_other v o s))
+      strict_der : (v : Arms.Value) (o : List ℕ) (s : IsStrict Arms.Form v o) → Arms.Der s.id o v
+      strict_der (inl v) o s = (own_tag v s.id s.content s.form, l.strict_der v o (strict_this v o s))
+      strict_der (inr v) o s = (other_tag v s.id s.content s.form, m.strict_der v o (strict_other v o s))
 
-    tagged : (v : Arms.Value) (i : Identifier) (c : List ℕ) → Arms.Form v i c → has_a_tag Arms.tags i ≡ true
-    tagged (inl v) i c f = or_first (has_tag class number i) (has_a_tag H.tags i) (own_tag v i c f)
-    tagged (inr v) i c f = or_second (has_tag class number i) (has_a_tag H.tags i) (m.tagged v i c f)
+      tagged : (v : Arms.Value) (i : Identifier) (c : List ℕ) → Arms.Form v i c → has_a_tag Arms.tags i ≡ true
+      tagged (inl v) i c f = or_first (is_of_tag class number i) (has_a_tag H.tags i) (own_tag v i c f)
+      tagged (inr v) i c f = or_second (is_of_tag class number i) (has_a_tag H.tags i) (m.tagged v i c f)
 
-    -- A lawful type and lawful arms, none of which has its class and its tag number, are lawful arms.
-    pub or_arms_lawful : AreLawfulArms Arms
-    or_arms_lawful = record {
-      one_equality = ⊎_set l.one_equality m.one_equality;
-      der_element = der_are;
-      der_values = der_values;
-      body_values = body_values;
-      form_values = form_values;
-      der_one = λ i. both_one (has_tag class number i) G.Der (H.Der i) l.der_one (m.der_one i);
-      body_one = body_one;
-      one_form = one_form;
-      one_value = one_value;
-      form_fits = form_fits;
-      form_check = form_check;
-      form_der = form_der;
-      form_body = form_body;
-      strict_der = strict_der;
-      tagged = tagged;
-    }
+      -- A lawful type and lawful arms, none of which has its class and its tag number, are lawful arms.
+      pub or_arms_lawful : AreLawfulArms Arms
+      or_arms_lawful = record {
+        one_equality = ⊎_set l.one_equality m.one_equality;
+        der_element = der_are;
+        der_values = der_values;
+        body_values = body_values;
+        form_values = form_values;
+        der_one = λ i. both_one (is_of_tag class number i) G.Der (H.Der i) l.der_one (m.der_one i);
+        body_one = body_one;
+        one_form = one_form;
+        one_value = one_value;
+        form_fits = form_fits;
+        form_check = form_check;
+        form_der = form_der;
+        form_body = form_body;
+        strict_der = strict_der;
+        tagged = tagged;
+      }
 
 -- Choices.
 

@@ -9,7 +9,7 @@ use Rattle.asn1_rs.specs.CodedStrings.{IsCoded, coded_leaf, coded_string_leaf}
 use Rattle.asn1_rs.specs.Laws.Checks.{content_check_is, is_primitive_is}
 use Rattle.asn1_rs.specs.Leaf.{IsLawfulLeaf}
 use Rattle.x690.specs.Laws.Equality.{octets_set}
-use Rattle.asn1_rs.specs.Strings.{text_of}
+use Rattle.asn1_rs.specs.Strings.{string_text}
 
 -- A leaf whose text stands in a code is lawful.
 pub coded_lawful : {S : Type 0} (number : ℕ) (code : List ℕ → List ℕ) (text : S → List ℕ) → number < 31 →
@@ -33,4 +33,4 @@ pub coded_string_lawful : {K : Type 0} (number : ℕ) (octets_of : ℕ → List 
     is_container_number number ≡ false → IsCharacterCode octets_of →
     IsLawfulLeaf (coded_string_leaf {K = K} number octets_of)
 coded_string_lawful number octets_of small primitive is =
-    coded_lawful number (code_of octets_of) text_of small primitive (text_code octets_of is)
+    coded_lawful number (code_of octets_of) string_text small primitive (text_code octets_of is)

@@ -17,8 +17,10 @@ use Rattle.asn1_rs.specs.declared.asn1_types.embedded_pdv.EmbeddedPdv.{EmbeddedP
 use Rattle.asn1_rs.specs.Any.{parts_of}
 use Rattle.asn1_rs.specs.Checks.{IsCheck, but_text, has_number, is_constructed, is_counted}
 use Rattle.asn1_rs.specs.EmbeddedPdv.{Identification, syntaxes, syntax, context, negotiation, transfer, fixed, PdvValue}
-use Rattle.asn1_rs.specs.EmbeddedPdv.{AreParts, IsPdv, BeginsWithParts, NoElement, BeginsWithTwo, NotTwo, Identifies}
-use Rattle.asn1_rs.specs.EmbeddedPdv.{SaysNone, has_tag, HasInner, HasNoInner, HoldsElement, HoldsNone, IsIdentified}
+use Rattle.asn1_rs.specs.EmbeddedPdv.{IsIdentification, IsPdv, BeginsWithParts, NoFirstElement, BeginsWithTwo, NotTwo}
+use Rattle.asn1_rs.specs.EmbeddedPdv.{Identifies}
+use Rattle.asn1_rs.specs.EmbeddedPdv.{SaysNone, has_context_tag, HasInner, HasNoInner, HoldsElement, HoldsNone}
+use Rattle.asn1_rs.specs.EmbeddedPdv.{IsIdentified}
 use Rattle.asn1_rs.specs.EmbeddedPdv.{NotIdentified, IsData, NoData, HasPdvParts, LacksPart, PdvBody, PdvGives}
 use Rattle.asn1_rs.specs.EmbeddedPdv.{Identification-set, PdvValue-set, pdv_constraints, pdv_element, pdv_value}
 use Rattle.asn1_rs.specs.Grammar.{TakesBody}
@@ -72,7 +74,7 @@ one_begins o p q r s a b =
     (same.1, append_cancel_left b.word r s (ap (λ (w : List ℕ). w ++ r) (sym same.0) ∙ sym a.is ∙ b.is))
 
 -- where one does there is no refusal
-begins_or_none : (o : List ℕ) (p : Parts) (r : List ℕ) (e : Error) → BeginsWithParts o p r → NoElement o e → ⊥
+begins_or_none : (o : List ℕ) (p : Parts) (r : List ℕ) (e : Error) → BeginsWithParts o p r → NoFirstElement o e → ⊥
 begins_or_none o p r e a n = ber_elements.final o [] a.word r p n.0 n.1
     (speaks_now (EndsWithin o) n.0 (ber_elements.counts o n.0 n.1)) a.fits (append-nil o ∙ a.is)
 
@@ -97,20 +99,21 @@ flat_no_memory (rule_fault violation) a = cc
 flat_no_memory depth_fault a = cc
 
 -- Octets with no element have one refusal.
-one_no_element : (o : List ℕ) (e f : Error) → NoElement o e → NoElement o f → but_text e ≡ but_text f
+one_no_element : (o : List ℕ) (e f : Error) → NoFirstElement o e → NoFirstElement o f → but_text e ≡ but_text f
 one_no_element o e f n m =
     ap but_text (one_flat m.0 e f (subst (λ (z : Fault). Flat z e) (ber_elements.alone o n.0 m.0 n.1 m.1) n.2) m.2)
 
 -- It does not report out of memory.
-no_element_no_memory : (o : List ℕ) → NoElement o errors.OutOfMemory → ⊥
+no_element_no_memory : (o : List ℕ) → NoFirstElement o errors.OutOfMemory → ⊥
 no_element_no_memory o n = flat_no_memory n.0 n.2
 
 -- That of the tag number is a check.
-has_tag_is : (number : ℕ) → IsCheck (has_tag number)
+has_tag_is : (number : ℕ) → IsCheck (has_context_tag number)
 has_tag_is number = before_is (has_class 2) (has_number number) (has_class_is 2) (has_number_is number)
 
 -- An element of another tag number has one refusal.
-one_tag_refusal : (number : ℕ) (p : Parts) (e f : Error) → has_tag number p (Err e) → has_tag number p (Err f) →
+one_tag_refusal : (number : ℕ) (p : Parts) (e f : Error) → has_context_tag number p (Err e) →
+    has_context_tag number p (Err f) →
     but_text e ≡ but_text f
 one_tag_refusal number p e f a b = ap but_text ((has_tag_is number).one p e f a b)
 
@@ -124,12 +127,14 @@ one_two o p q r s a b =
 
 -- Where two elements begin octets there is no refusal of them.
 two_or_none : (o : List ℕ) (p q : Parts) (e : Error) → BeginsWithTwo o p q → NotTwo o e → ⊥
-two_or_none o p q e a n = lacks_apart but_text (BeginsWithParts o) (NoElement o) (λ one between. NoElement between)
+two_or_none o p q e a n =
+    lacks_apart but_text (BeginsWithParts o) (NoFirstElement o) (λ one between. NoFirstElement between)
     (one_begins o) (begins_or_none o) p a.between e a.first (begins_or_none a.between q a.rest e a.second) n
 
 -- Octets with no two elements have one refusal.
 one_not_two : (o : List ℕ) (e f : Error) → NotTwo o e → NotTwo o f → but_text e ≡ but_text f
-one_not_two o = lacks_one but_text (BeginsWithParts o) (NoElement o) (λ one between. NoElement between) (one_begins o)
+one_not_two o =
+    lacks_one but_text (BeginsWithParts o) (NoFirstElement o) (λ one between. NoFirstElement between) (one_begins o)
     (begins_or_none o) (one_no_element o) (λ one between. one_no_element between)
 
 -- It does not report out of memory.
@@ -223,15 +228,15 @@ one_inner outer p q a b = (one_begins outer.content p q a.rest b.rest a.within b
 
 -- Where an element holds one there is no refusal of that.
 inner_or_none : (outer p : Parts) (e : Error) → HasInner outer p → HasNoInner outer e → ⊥
-inner_or_none outer p e a n = lacks_apart but_text (BeginsWithParts outer.content) (NoElement outer.content)
-    (λ inner rest x. has_tag 0 outer (Err x)) (one_begins outer.content)
+inner_or_none outer p e a n = lacks_apart but_text (BeginsWithParts outer.content) (NoFirstElement outer.content)
+    (λ inner rest x. has_context_tag 0 outer (Err x)) (one_begins outer.content)
     (begins_or_none outer.content) p a.rest e a.within
     ((has_tag_is 0).apart outer e a.tag) n
 
 -- An element that holds none has one refusal.
 one_no_inner : (outer : Parts) (e f : Error) → HasNoInner outer e → HasNoInner outer f → but_text e ≡ but_text f
-one_no_inner outer = lacks_one but_text (BeginsWithParts outer.content) (NoElement outer.content)
-    (λ inner rest x. has_tag 0 outer (Err x)) (one_begins outer.content) (begins_or_none outer.content)
+one_no_inner outer = lacks_one but_text (BeginsWithParts outer.content) (NoFirstElement outer.content)
+    (λ inner rest x. has_context_tag 0 outer (Err x)) (one_begins outer.content) (begins_or_none outer.content)
     (one_no_element outer.content) (λ inner rest. one_tag_refusal 0 outer)
 
 -- It does not report out of memory.
@@ -247,12 +252,14 @@ one_held o p q r s a b =
 
 -- Where they hold one there is no refusal of that.
 held_or_none : (o : List ℕ) (p : Parts) (r : List ℕ) (e : Error) → HoldsElement o p r → HoldsNone o e → ⊥
-held_or_none o p r e a n = lacks_apart but_text (BeginsWithParts o) (NoElement o) (λ outer behind. HasNoInner outer)
+held_or_none o p r e a n =
+    lacks_apart but_text (BeginsWithParts o) (NoFirstElement o) (λ outer behind. HasNoInner outer)
     (one_begins o) (begins_or_none o) a.outer r e a.first (inner_or_none a.outer p e a.has) n
 
 -- Octets that hold none have one refusal.
 one_none_held : (o : List ℕ) (e f : Error) → HoldsNone o e → HoldsNone o f → but_text e ≡ but_text f
-one_none_held o = lacks_one but_text (BeginsWithParts o) (NoElement o) (λ outer behind. HasNoInner outer) (one_begins o)
+one_none_held o =
+    lacks_one but_text (BeginsWithParts o) (NoFirstElement o) (λ outer behind. HasNoInner outer) (one_begins o)
     (begins_or_none o) (one_no_element o) (λ outer behind. one_no_inner outer)
 
 -- It does not report out of memory.
@@ -290,12 +297,14 @@ one_data_value o a b x y =
 
 -- Where there is a data value there is no refusal of it.
 data_or_none : (o a : List ℕ) (e : Error) → IsData o a → NoData o e → ⊥
-data_or_none o a e x n = lacks_apart but_text (BeginsWithParts o) (NoElement o) (λ p rest z. has_tag 2 p (Err z))
+data_or_none o a e x n =
+    lacks_apart but_text (BeginsWithParts o) (NoFirstElement o) (λ p rest z. has_context_tag 2 p (Err z))
     (one_begins o) (begins_or_none o) x.parts x.rest e x.element ((has_tag_is 2).apart x.parts e x.tag) n
 
 -- Octets with none have one refusal.
 one_no_data : (o : List ℕ) (e f : Error) → NoData o e → NoData o f → but_text e ≡ but_text f
-one_no_data o = lacks_one but_text (BeginsWithParts o) (NoElement o) (λ p rest z. has_tag 2 p (Err z)) (one_begins o)
+one_no_data o =
+    lacks_one but_text (BeginsWithParts o) (NoFirstElement o) (λ p rest z. has_context_tag 2 p (Err z)) (one_begins o)
     (begins_or_none o) (one_no_element o) (λ p rest. one_tag_refusal 2 p)
 
 -- It does not report out of memory.
@@ -340,7 +349,7 @@ absolute_octets : (v : OidValue) (c : List ℕ) → v ≡ absolute c → IsOctet
 absolute_octets v c e o = subst (λ (z : OidValue). IsOctets z.octets) (sym e) o
 
 -- The identification that an element says has parts such as an element can say.
-said_parts : (p : Parts) (i : Identification) → IsOctets p.content → Identifies p i → AreParts i
+said_parts : (p : Parts) (i : Identification) → IsOctets p.content → Identifies p i → IsIdentification i
 said_parts p (syntaxes a t) o (n, (one, other, two, x, y)) = (
   absolute_octets a one.content x (begun_octets p.content one two.between two.first),
   absolute_octets t other.content y (begun_octets two.between other two.rest two.second),

@@ -14,16 +14,16 @@ use Rattle.asn1_headers.specs.declared.error.Err.TheVariants.{Incomplete as trun
 use Rattle.asn1_headers.specs.declared.error.Needed.{Needed}
 use Rattle.asn1_headers.specs.declared.error.Needed.TheVariants.{Size}
 use Rattle.asn1_headers.specs.declared.error.Error.{Error}
-use Rattle.asn1_headers.specs.Answers.{Front}
+use Rattle.asn1_headers.specs.Answers.{HasPrefix}
 use Rattle.asn1_headers.specs.Ber.{max_depth, EndsWithin}
 use Rattle.asn1_headers.specs.Error.{Converted}
 use Rattle.asn1_headers.specs.Header.Reading.{HeaderGives, refusal_of, der_violation, ber_violation}
 use Rattle.asn1_rs.specs.Any.{parts_of}
-use Rattle.asn1_rs.specs.Laws.Readers.{AreElements, ber_elements, der_elements}
+use Rattle.asn1_rs.specs.Laws.Readers.{AreLawfulElements, ber_elements, der_elements}
 use Rattle.asn1_headers.specs.declared.tag.Tag.{Tag}
 use Rattle.asn1_rs.specs.Tagged.{OfElement, ReadsWhole, ThenGives, ThenByBer, ThenByDer}
 use Rattle.asn1_rs.specs.Tagged.Explicit.{ExplicitGives}
-use Rattle.asn1_rs.specs.Tagged.Parser.{TakesExplicit, TakesWhole, TakesImplicit}
+use Rattle.asn1_rs.specs.Tagged.Parser.{TakesExplicit, TakesWholeContent, TakesImplicit}
 use Rattle.asn1_rs.specs.Faults.{TellsHeaderFirst, LacksOctets, TruncationsAreCounted, TruncationsAreCountedOrWithin}
 use Rattle.asn1_rs.specs.Traits.{BerGives, DerGives, ElementGives, PassesAll}
 
@@ -35,13 +35,13 @@ ber_header_fault zero octets fault why = inl why
 ber_header_fault (suc depth) octets fault why = inl why
 
 module _ (ElementOf : List ℕ → Parts → Type 0) (FaultOf : List ℕ → Fault → Type 0) (IsTruncated : List ℕ → Type 0)
-    (elements : AreElements ElementOf FaultOf IsTruncated) (rule : Rule) (refuses : Violation → Error)
+    (elements : AreLawfulElements ElementOf FaultOf IsTruncated) (rule : Rule) (refuses : Violation → Error)
     (is_fault : (octets : List ℕ) (fault : Fault) → HeaderFault rule octets fault → FaultOf octets fault)
     (E : Type 0) (from : Error → E → Type 0) where
   -- the refusal of a fault of the element, or an element that begins the octets
   abbrev FaultOrElement : List ℕ → Refusal E → Type 0
   FaultOrElement octets r = ((fault : Fault) × FaultOf octets fault × Converted from (refusal_of refuses fault) r) ⊎
-      ((p : Parts) × (rest : List ℕ) × Front ElementOf octets p rest)
+      ((p : Parts) × (rest : List ℕ) × HasPrefix ElementOf octets p rest)
 
   -- where no header begins the octets, it is the refusal of the header
   pub header_first : (octets : List ℕ) (q : Refusal Error) (r : Refusal E) →
@@ -170,10 +170,11 @@ ber_explicit_parser_truncations K {T} {E} reads from =
 
 pub der_explicit_parser_truncations : (K : Type 0) {T E : Type 0} (reads : List ℕ → Result (List ℕ × T) (Refusal E) → Type 0)
     (from : Error → E → Type 0) →
-    TruncationsAreCountedOrWithin DerElementFault IsDerElement reads (ThenByDer from (TakesWhole {K = K} reads from))
+    TruncationsAreCountedOrWithin DerElementFault IsDerElement reads
+    (ThenByDer from (TakesWholeContent {K = K} reads from))
 der_explicit_parser_truncations K {T} {E} reads from =
     then_truncations IsDerElement DerElementFault IsTruncatedIdentifier der_elements der_rule der_violation (λ o f why. inl why) E
-    from reads (TakesWhole {K = K} reads from)
+    from reads (TakesWholeContent {K = K} reads from)
     (λ any rest needed taken. whole_truncated reads from any.content.now needed taken)
 
 -- what is converted under another number tells no cut

@@ -26,13 +26,14 @@ use Rattle.x690.specs.Laws.Collections.{zip_joined}
 use Rattle.x690.specs.Laws.Joined.{joined_map, joined_values, joined_octets, joined_one, joined_same, ends_unjoined}
 use Rattle.asn1_headers.specs.Header.Reading.{der_violation}
 use Rattle.asn1_rs.specs.declared.asn1_types.any.Any.{Any}
-use Rattle.asn1_headers.specs.Error.{HeldIn, FlattenedTo}
+use Rattle.asn1_headers.specs.Error.{ErrorIs, FlattenedTo}
 use Rattle.asn1_rs.specs.Kinds.{IsExactCheck}
 use Rattle.asn1_rs.specs.Any.{parts_of, IsTheElement}
 use Rattle.asn1_rs.specs.Traits.{DerGives, OfParts, PassesAll}
 use Rattle.asn1_rs.specs.Laws.Any.Value.{the_element_parts}
 use Rattle.asn1_headers.specs.Answers.{Exactly, TellsMemory, IsOther}
-use Rattle.asn1_rs.specs.Grammar.Form.{IsOneForm, IsOneValue, FitsElement, HasValues, IsStrict, universal, header_of}
+use Rattle.asn1_rs.specs.Grammar.Form.{IsOneForm, IsOneValue, FitsElement, HasValues, IsStrict, of_universal_class}
+use Rattle.asn1_rs.specs.Grammar.Form.{header_of}
 use Rattle.asn1_rs.specs.Grammar.Form.{WritesByValue, WritesForm, HasForm}
 use Rattle.asn1_rs.specs.Grammar.{IsOneBody, TakesBody, Checks, FormChecks, FormBodies, FormTakes, FormNumber, NoCheck}
 use Rattle.asn1_rs.specs.Grammar.{DerWord, made, of_class}
@@ -46,7 +47,7 @@ use Rattle.asn1_rs.specs.Checks.{CheckGives, IsCheck, has_number, is_constructed
 use Rattle.asn1_rs.specs.Laws.Checks.{exact_check, before_is, has_number_is, is_constructed_is}
 use Rattle.asn1_rs.specs.Lists.{list_grammar, ShapedList, HasNumber, IsConstructed, ListBody, ListOf, CheckedElement}
 use Rattle.asn1_rs.specs.Lists.{ListCheck, StrictWord, ListForm}
-use Rattle.asn1_rs.specs.Lists.{IsListOr, ItemsGive, ListTakes, CheckedGives, ListCheckGives, SomeRefuses}
+use Rattle.asn1_rs.specs.Lists.{IsListOr, ItemsGive, ListConverts, CheckedGives, ListCheckGives, SomeRefuses}
 use Rattle.asn1_rs.specs.Lists.{has_items}
 use Rattle.asn1_rs.specs.ToDer.{HasNone, IsWritable, Writing, whole_octets, whole_refuses}
 use Rattle.asn1_rs.specs.Laws.Readers.{element_exact, element_no_memory, der_violation_no_memory, der_elements}
@@ -284,7 +285,7 @@ module _ {T V W E : Type 0} {check : CheckGives} {Shape : Parts → Type 0} (che
 
   -- The list is that of the items.
   pub list_takes : (any : Any) (answer : Result W E) → IsOctets any.content.now →
-      OfParts (ListTakes check holds reads from) any answer →
+      OfParts (ListConverts check holds reads from) any answer →
       TakesBody (ShapedList Shape G) values true from (parts_of any) answer
   list_takes any (Ok w) o t = record {
     shape = checks.exact (parts_of any) (Ok tt) t.0;
@@ -296,10 +297,10 @@ module _ {T V W E : Type 0} {check : CheckGives} {Shape : Parts → Type 0} (che
 
   -- So is reading the element at the front by DER, and making a list of it.
   pub list_by_der_exact : (input : List ℕ) (answer : Result (List ℕ × W) (Refusal E)) →
-      DerGives PassesAll (OfParts (ListTakes check holds reads from)) from input answer →
+      DerGives PassesAll (OfParts (ListConverts check holds reads from)) from input answer →
       Exactly IsTruncatedIdentifier (DerWord NoCheck (ShapedList Shape G)) values (TellsMemory true from) input answer
   list_by_der_exact =
-      unchecked_exact (OfParts (ListTakes check holds reads from)) from (ShapedList Shape G) values true list_takes
+      unchecked_exact (OfParts (ListConverts check holds reads from)) from (ShapedList Shape G) values true list_takes
 
 -- Checking.
 
@@ -364,7 +365,7 @@ list_checks number check Check c = record {
         der_violation_no_memory check IsTheElement (λ (x y : Error). y ≡ x) c.asks_no_memory (λ any f h. absurd h) octets
         (Err r) g) e
       where
-        refusal_not_memory : (r : Refusal Error) → HeldIn (IsOther (λ (x y : Error). y ≡ x)) r →
+        refusal_not_memory : (r : Refusal Error) → ErrorIs (IsOther (λ (x y : Error). y ≡ x)) r →
             FlattenedTo (λ x y. y ≡ x) (λ (x y : Error). y ≡ x) r errors.OutOfMemory → ⊥
         refusal_not_memory (truncated n) h f = cc
         refusal_not_memory (refused f) (inl o) k = o.1 (let a = o.2 in cc)
@@ -474,7 +475,7 @@ pub list_has_form : {S V W : Type 0} (number : ℕ) (items : W → List S) (valu
 list_has_form number items value IsDer Form w strict l a fits =
     let xs = items l in
     ∥∥₁_map (zip_written value IsDer Form (whole_octets w) strict xs a fits) (λ z. (
-      universal true number,
+      of_universal_class true number,
       (
         refl,
         subst (λ c. IsConcatenation (StrictWord Form) c (map value xs)) (joined_flat (whole_octets w) xs)

@@ -11,7 +11,7 @@ use Rattle.asn1_rs.specs.Checks.{CheckGives, IsCheck, nothing, is_primitive}
 use Rattle.asn1_headers.specs.Tag.{is_container_number}
 use Rattle.x690.specs.Elements.{Parts}
 use Rattle.asn1_rs.specs.OctetString.{contents_leaf, octets_leaf, octet_string_number, octet_string_leaf, slice_leaf}
-use Rattle.asn1_rs.specs.OctetString.{octets_of}
+use Rattle.asn1_rs.specs.OctetString.{string_octets}
 use Rattle.asn1_rs.specs.Laws.Checks.{nothing_is, is_primitive_is}
 use Rattle.x690.specs.Laws.Equality.{octets_set}
 
@@ -44,7 +44,7 @@ octets_lawful number octets small none =
 
 -- Octet strings are lawful.
 pub octet_string_lawful : IsLawfulLeaf octet_string_leaf
-octet_string_lawful = octets_lawful octet_string_number octets_of (lit< tt) refl
+octet_string_lawful = octets_lawful octet_string_number string_octets (lit< tt) refl
 
 -- Borrowed octets are lawful.
 pub slice_lawful : IsLawfulLeaf slice_leaf
@@ -54,8 +54,8 @@ slice_lawful = octets_lawful octet_string_number (λ x. x.now) (lit< tt) refl
 
 -- octet strings are equal where their octets are
 pub octet_string_equal : (x y : OctetString) →
-    IsTrue (pointwise nat_eq (octets_of x) (octets_of y)) ↔ (octets_of x ≡ octets_of y)
-octet_string_equal x y = pointwise_decides unsigned_Decides (octets_of x) (octets_of y)
+    IsTrue (pointwise nat_eq (string_octets x) (string_octets y)) ↔ (string_octets x ≡ string_octets y)
+octet_string_equal x y = pointwise_decides unsigned_Decides (string_octets x) (string_octets y)
 
 -- Borrowed octets are equal exactly where they are the same.
 pub slice_equal : (x y : Bor (List ℕ)) → IsTrue (bytes_eq x.now y.now) ↔ (x.now ≡ y.now)

@@ -21,7 +21,7 @@ use Rattle.asn1_rs.specs.declared.asn1_types.oid.Oid.{Oid}
 use Rattle.asn1_rs.specs.Any.{parts_of}
 use Rattle.asn1_rs.specs.Checks.{CheckGives, IsCheck, has_number, is_counted, is_primitive}
 use Rattle.asn1_rs.specs.Grammar.{made, of_class, FormNumber, FormTakes, TakesBody}
-use Rattle.asn1_rs.specs.Grammar.Form.{header_of, universal}
+use Rattle.asn1_rs.specs.Grammar.Form.{header_of, of_universal_class}
 use Rattle.asn1_rs.specs.Grammar.Item.{IsLawfulWriting}
 use Rattle.asn1_rs.specs.Kinds.{IsLawfulElement, IsExactCheck, IsExactConversion, item_grammar}
 use Rattle.asn1_rs.specs.Leaf.{HasOneRefusalUpTo}
@@ -50,7 +50,7 @@ checked : (i : Identifier) (c : List ℕ) → i.constructed ≡ false → oid_co
 checked i c e = (e, (_, refl))
 
 -- The identifier octets of an object identifier say the primitive form.
-primitive : (i : Identifier) → i ≡ universal false oid_number → i.constructed ≡ false
+primitive : (i : Identifier) → i ≡ of_universal_class false oid_number → i.constructed ≡ false
 primitive i e = ap (λ (z : Identifier). z.constructed) e
 
 -- The laws.
@@ -115,7 +115,8 @@ header_by_value : (x y : Oid) → oid_value x ≡ oid_value y → oid_header x �
 header_by_value x y e = ap (λ (v : OidValue). header_octets 0 false (written_number v.relative) (length v.octets)) e
 
 -- The header that is written for an absolute identifier is the strict one.
-strict_header : (x : Oid) (i : Identifier) (c : List ℕ) → i ≡ universal false oid_number → oid_value x ≡ absolute c →
+strict_header : (x : Oid) (i : Identifier) (c : List ℕ) → i ≡ of_universal_class false oid_number →
+    oid_value x ≡ absolute c →
     oid_header x ≡ header_of i c
 strict_header x i c f e = ap (λ (v : OidValue). header_octets 0 false (written_number v.relative) (length v.octets)) e
     ∙ sym (ap (λ (z : Identifier). header_of z c) f)
@@ -135,7 +136,7 @@ oid_lawful_writing = record {
     ap (λ (v : OidValue). v.octets) f.1.1,
     strict_header x i c f.0 f.1.1,
   );
-  der_form = λ x d l. ∣ (universal false oid_number, (refl, (d, made_of (oid_value x) d.absolute))) ∣₁;
+  der_form = λ x d l. ∣ (of_universal_class false oid_number, (refl, (d, made_of (oid_value x) d.absolute))) ∣₁;
   der_writable = λ x d. free x;
 }
   where

@@ -26,10 +26,10 @@ use Rattle.asn1_rs.specs.Grammar.{FormNumber}
 use Rattle.asn1_headers.specs.Header.{identifier_of}
 use Rattle.asn1_headers.specs.Header.Reading.{HeaderGives, refusal_of}
 use Rattle.asn1_headers.specs.Length.{form_of}
-use Rattle.asn1_rs.specs.Optional.{IsLeftOut, OptionGives, ReadsHeldBack, ReadsNoneBefore, ReadsNoneAtEnd, in_some}
-use Rattle.asn1_rs.specs.Optional.{IsAtEnd, RefusesAsHeld, StaysIn}
+use Rattle.asn1_rs.specs.Optional.{IsLeftOut, OptionGives, ReadsSomeBack, ReadsNoneBefore, ReadsNoneAtEnd, in_some}
+use Rattle.asn1_rs.specs.Optional.{IsAtEnd, RefusesAsSome, StaysIn}
 use Rattle.asn1_rs.specs.Faults.{TellsHeaderFirst}
-use Rattle.asn1_rs.specs.Laws.Readers.{AreElements, speaks_fault}
+use Rattle.asn1_rs.specs.Laws.Readers.{AreLawfulElements, speaks_fault}
 use Rattle.asn1_rs.specs.Any.{AnyGives}
 use Rattle.asn1_rs.specs.Laws.Any.{refusal_lasts}
 use Rattle.asn1_rs.specs.Laws.Words.{strict_element, read_back}
@@ -100,12 +100,12 @@ answers_none rule reads octets tag own told e tells is =
     inl (subst (λ (t : Tag). IsLeftOut rule t.0 octets) e (tells.0 is), refl)
 
 -- and else the whole answer of the reader of the value
-pub answers_held : {T E : Type 0} (rule : Rule) (reads : List ℕ → Result (List ℕ × T) (Refusal E) → Type 0)
+pub answers_some : {T E : Type 0} (rule : Rule) (reads : List ℕ → Result (List ℕ × T) (Refusal E) → Type 0)
     (octets : List ℕ) (tag own : Tag) (told : Bool) → tag ≡ own → IsTrue told ↔ IsLeftOut rule tag.0 octets →
     told ≡ false
     → (its : Result (List ℕ × T) (Refusal E)) → reads octets its → (answer : Result (List ℕ × Option T) (Refusal E)) →
     answer ≡ in_some its → OptionGives (IsLeftOut rule own.0) reads octets answer
-answers_held rule reads octets tag own told e tells stays its gives answer is =
+answers_some rule reads octets tag own told e tells stays its gives answer is =
     inr (
       λ out. absurd (false≢true (sym stays ∙ tells.1 (subst (λ (t : Tag). IsLeftOut rule t.0 octets) (sym e) out))),
       (its, gives, is),
@@ -171,18 +171,18 @@ held_reads_back value memory v rest (Ok x) b = (ap Some b.0, b.1)
 held_reads_back value memory v rest (Err r) b = b
 
 -- The strict encoding of what is held is read back, by a reader of optional values over one that is exact.
-pub held_is_read_back : {T V E : Type 0} (rule : Rule) → AllowsStrict rule →
+pub some_is_read_back : {T V E : Type 0} (rule : Rule) → AllowsStrict rule →
     (IsTruncated : List ℕ → Type 0) (Form : V → Identifier → List ℕ → Type 0) (G : List ℕ → V → Type 0) (value : T → V)
     (memory : Refusal E → Type 0) (number : ℕ) → IsSet V
     → ((v : V) (o : List ℕ) → IsStrict Form v o → G o v) → IsPrefixFree G → FormNumber Form number →
     (reads : List ℕ → Result (List ℕ × T) (Refusal E) → Type 0)
     → ((octets : List ℕ) (its : Result (List ℕ × T) (Refusal E)) → IsOctets octets → reads octets its →
     Exactly IsTruncated G value memory octets its)
-    → ReadsHeldBack (OptionGives (IsLeftOut rule number) reads) Form value memory
-held_is_read_back rule allows IsTruncated Form G value memory number equality strict one numbered reads exact octets
+    → ReadsSomeBack (OptionGives (IsLeftOut rule number) reads) Form value memory
+some_is_read_back rule allows IsTruncated Form G value memory number equality strict one numbered reads exact octets
     answer v w rest are (inl (out, e)) s is =
     absurd (∥∥₁_elim s ⊥_prop (λ t. strict_stays rule allows Form number numbered v octets w rest t is out))
-held_is_read_back rule allows IsTruncated Form G value memory number equality strict one numbered reads exact octets
+some_is_read_back rule allows IsTruncated Form G value memory number equality strict one numbered reads exact octets
     answer v w rest are (inr (stays, (its, gives, e))) s is =
     subst (ReadsBack (option_map value) memory (Some v) rest) (sym e) (held_reads_back value memory v rest its
     (read_back IsTruncated Form G value memory equality strict one octets its (exact octets its are gives) v w rest s is))
@@ -200,12 +200,13 @@ refused_is_held {T} {E} LeftOut reads octets r (inr (stays, (Err q, gives, e))) 
     (stays, subst (λ (z : Refusal E). reads octets (Err z)) same gives)
 
 -- A refusal of an optional value is that of the value, and final as that.
-pub held_is_refused : {T V E : Type 0} (LeftOut : List ℕ → Type 0) (IsTruncated : List ℕ → Type 0) (G : List ℕ → V → Type 0)
+pub some_is_refused : {T V E : Type 0} (LeftOut : List ℕ → Type 0) (IsTruncated : List ℕ → Type 0)
+    (G : List ℕ → V → Type 0)
     (value : T → V) (memory : Refusal E → Type 0) (reads : List ℕ → Result (List ℕ × T) (Refusal E) → Type 0)
     → ((octets : List ℕ) (its : Result (List ℕ × T) (Refusal E)) → IsOctets octets → reads octets its →
     Exactly IsTruncated G value memory octets its)
-    → RefusesAsHeld (OptionGives LeftOut reads) reads IsTruncated G memory
-held_is_refused LeftOut IsTruncated G value memory reads exact octets r are g =
+    → RefusesAsSome (OptionGives LeftOut reads) reads IsTruncated G memory
+some_is_refused LeftOut IsTruncated G value memory reads exact octets r are g =
     let its = (refused_is_held LeftOut reads octets r g).1 in
     (its, exact octets (Err r) are its)
 
@@ -259,11 +260,11 @@ refused_stays_in {T} {E} rule refuses from number reads first octets more r are 
 
 -- A refusal of an optional element is that of the element, and final as that.
 pub element_is_refused : (ElementOf : List ℕ → Parts → Type 0) (FaultOf : List ℕ → Fault → Type 0)
-    (IsTruncated : List ℕ → Type 0) → AreElements ElementOf FaultOf IsTruncated → (refuses : Violation → Error)
+    (IsTruncated : List ℕ → Type 0) → AreLawfulElements ElementOf FaultOf IsTruncated → (refuses : Violation → Error)
     (LeftOut : List ℕ → Type 0) (reads : List ℕ → Result (List ℕ × Any) (Refusal Error) → Type 0) →
     ((octets : List ℕ) (answer : Result (List ℕ × Any) (Refusal Error)) → reads octets answer →
     AnyGives ElementOf FaultOf (refusal_of refuses) octets answer) →
-    RefusesAsHeld (OptionGives LeftOut reads) reads IsTruncated ElementOf (λ r. ⊥)
+    RefusesAsSome (OptionGives LeftOut reads) reads IsTruncated ElementOf (λ r. ⊥)
 element_is_refused ElementOf FaultOf IsTruncated elements refuses LeftOut reads gives octets r are g =
     let its = (refused_is_held LeftOut reads octets r g).1 in (
       its,

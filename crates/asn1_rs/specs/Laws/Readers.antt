@@ -22,10 +22,10 @@ use Rattle.asn1_headers.specs.declared.error.Err.TheVariants.{Error as refused, 
 use Rattle.asn1_headers.specs.declared.error.Needed.TheVariants.{Size, Unknown}
 use Rattle.asn1_headers.specs.declared.error.Error.{Error}
 use Rattle.asn1_headers.specs.declared.error.Error.TheVariants.{OutOfMemory}
-use Rattle.asn1_headers.specs.Error.{Converted, HeldIn}
+use Rattle.asn1_headers.specs.Error.{Converted, ErrorIs}
 use Rattle.asn1_headers.specs.Header.Reading.{refusal_of, der_violation, ber_violation}
 use Rattle.asn1_rs.specs.Any.{parts_of}
-use Rattle.asn1_headers.specs.Answers.{Front, IsFinal, Speaks, Exactly, TellsMemory, IsOther}
+use Rattle.asn1_headers.specs.Answers.{HasPrefix, IsFinal, Speaks, Exactly, TellsMemory, IsOther}
 use Rattle.asn1_rs.specs.Grammar.{ElementWord, DerWord, TakesBody, Checks, NoCheck}
 use Rattle.asn1_rs.specs.Traits.{ElementGives, DerGives, PassesAll}
 use Rattle.asn1_headers.specs.Ber.{max_depth, EndsWithin}
@@ -33,7 +33,7 @@ use Rattle.asn1_headers.specs.Ber.{max_depth, EndsWithin}
 -- Elements.
 
 -- What the laws ask of elements: one alone begins an input, and a fault is the only one, and final.
-pub record AreElements (ElementOf : List ℕ → Parts → Type 0) (FaultOf : List ℕ → Fault → Type 0)
+pub record AreLawfulElements (ElementOf : List ℕ → Parts → Type 0) (FaultOf : List ℕ → Fault → Type 0)
     (IsTruncated : List ℕ → Type 0) : Type 0 where
   pub one : IsPrefixFree ElementOf
   pub final : (input more o rest : List ℕ) (p : Parts) (fault : Fault) → FaultOf input fault →
@@ -46,7 +46,7 @@ pub record AreElements (ElementOf : List ℕ → Parts → Type 0) (FaultOf : Li
   pub within : (input : List ℕ) → IsTruncated input → FaultOf input tag_fault
 
 -- Elements by DER are such.
-pub der_elements : AreElements IsDerElement DerElementFault IsTruncatedIdentifier
+pub der_elements : AreLawfulElements IsDerElement DerElementFault IsTruncatedIdentifier
 der_elements = record {
   one = definite_words der_rule;
   final = λ input more o rest p fault f s a e. no_der_element input more o rest p fault f s a e;
@@ -58,7 +58,7 @@ der_elements = record {
 }
 
 -- Elements by BER are such.
-pub ber_elements : AreElements (IsElement max_depth) (ElementFault max_depth) EndsWithin
+pub ber_elements : AreLawfulElements (IsElement max_depth) (ElementFault max_depth) EndsWithin
 ber_elements = record {
   one = nested_words max_depth;
   final = λ input more o rest p fault f s a e. no_element max_depth input more o rest p a.0 fault f s a.1 e;
@@ -100,27 +100,29 @@ speaks_fault at from (rule_fault violation) r is_truncated more some c s = tt
 speaks_fault at from depth_fault r is_truncated more some c s = tt
 
 -- A refusal speaks of the octets as they are.
-pub speaks_now : {E : Type 0} (is_truncated : Type 0) (r : Refusal E) → Speaks is_truncated r []
-speaks_now is_truncated (truncated (Size n)) = inl refl
-speaks_now is_truncated (truncated Unknown) = refl
-speaks_now is_truncated (refused x) = inl refl
-speaks_now is_truncated (failed x) = inl refl
+pub refusal_speaks_now : {E : Type 0} (is_truncated : Type 0) (r : Refusal E) → Speaks is_truncated r []
+refusal_speaks_now is_truncated (truncated (Size n)) = inl refl
+refusal_speaks_now is_truncated (truncated Unknown) = refl
+refusal_speaks_now is_truncated (refused x) = inl refl
+refusal_speaks_now is_truncated (failed x) = inl refl
 
 -- What a final refusal rules out begins the octets as they are neither.
 pub none_now : {V E : Type 0} (is_truncated : Type 0) (r : Refusal E) (G : List ℕ → V → Type 0) (input : List ℕ) →
     IsFinal is_truncated r G input → NoPrefix G input
-none_now is_truncated r G input f w rest v e g = f [] (speaks_now is_truncated r) w rest v (append-nil input ∙ e) g
+none_now is_truncated r G input f w rest v e g =
+    f [] (refusal_speaks_now is_truncated r) w rest v (append-nil input ∙ e) g
 
 -- A word at the front stays one with more octets behind.
-pub front_more : {V : Type 0} (G : List ℕ → V → Type 0) (input : List ℕ) (v : V) (rest more : List ℕ) →
-    Front G input v rest → Front G (input ++ more) v (rest ++ more)
-front_more G input v rest more f =
+pub prefix_more : {V : Type 0} (G : List ℕ → V → Type 0) (input : List ℕ) (v : V) (rest more : List ℕ) →
+    HasPrefix G input v rest → HasPrefix G (input ++ more) v (rest ++ more)
+prefix_more G input v rest more f =
     record { word = f.word; fits = f.fits; is = ap (λ (x : List ℕ). x ++ more) f.is ∙ append_assoc f.word rest more }
 
 -- Readers are exact.
 
 module _ {T V E : Type 0} (ElementOf : List ℕ → Parts → Type 0) (FaultOf : List ℕ → Fault → Type 0)
-    (IsTruncated : List ℕ → Type 0) (elements : AreElements ElementOf FaultOf IsTruncated) (refuses : Violation → Error)
+    (IsTruncated : List ℕ → Type 0) (elements : AreLawfulElements ElementOf FaultOf IsTruncated)
+    (refuses : Violation → Error)
     (check : Parts → Result (Unit {0}) Error → Type 0) (convert : Any → Result T E → Type 0) (from : Error → E → Type 0)
     (Check : Parts → Type 0) (Body : Parts → V → Type 0) (value : T → V) (allocates : Bool) (G : List ℕ → V → Type 0)
     (check_exact : (p : Parts) (answer : Result (Unit {0}) Error) → check p answer → Checks Check p answer)
@@ -129,7 +131,8 @@ module _ {T V E : Type 0} (ElementOf : List ℕ → Parts → Type 0) (FaultOf :
     (split : (o : List ℕ) (v : V) → G o v → ElementWord ElementOf Check Body o v)
     (join : (o : List ℕ) (v : V) → ElementWord ElementOf Check Body o v → G o v) where
   -- the element that was read is the one of any word at the front
-  word_parts : (input rest w r : List ℕ) (p : Parts) (v : V) → Front ElementOf input p rest → input ≡ w ++ r → G w v →
+  word_parts : (input rest w r : List ℕ) (p : Parts) (v : V) → HasPrefix ElementOf input p rest → input ≡ w ++ r →
+      G w v →
       Check p × Body p v
   word_parts input rest w r p v front e d =
       let a : ElementWord ElementOf Check Body w v = split w v d in
@@ -157,24 +160,24 @@ module _ {T V E : Type 0} (ElementOf : List ℕ → Parts → Type 0) (FaultOf :
       (speaks_fault refuses from fault r (IsTruncated input) more (elements.counts input fault f) c s) a.1 e)
   element_exact input (Err r) (inr (any, rest, begins, inl (e, c, f))) =
       inr (λ more s w t v h d. check_exact (parts_of any) (Err e) c (word_parts (input ++ more) (rest ++ more) w t
-      (parts_of any) v (front_more ElementOf input (parts_of any) rest more begins.front) h d).0)
+      (parts_of any) v (prefix_more ElementOf input (parts_of any) rest more begins.front) h d).0)
   element_exact input (Err r) (inr (any, rest, begins, inr (c, (e, cv, is)))) =
       elim (body_exact any (Err e) (elements.possible begins.front.word (parts_of any) begins.front.fits).content cv) [
         | inl m ↦ inl (m.0, (e, m.1, is))
         | inr none ↦ inr (λ more s w t v h d. none v (word_parts (input ++ more) (rest ++ more) w t (parts_of any) v
-            (front_more ElementOf input (parts_of any) rest more begins.front) h d).1)
+            (prefix_more ElementOf input (parts_of any) rest more begins.front) h d).1)
       ]
 
 -- no fault reports out of memory
 pub fault_no_memory : {E : Type 0} (from : Error → E → Type 0) (refuses : Violation → Error) →
     ((violation : Violation) → refuses violation ≢ OutOfMemory) → (fault : Fault) (r : Refusal E) →
-    Converted from (refusal_of refuses fault) r → HeldIn (IsOther from) r
-fault_no_memory from at other (missing n) r c = subst (HeldIn (IsOther from)) (sym c) tt
-fault_no_memory from at other tag_fault r c = subst (HeldIn (IsOther from)) (sym c.2) (inl (_, λ q. cc, c.1))
-fault_no_memory from at other length_fault r c = subst (HeldIn (IsOther from)) (sym c.2) (inl (_, λ q. cc, c.1))
+    Converted from (refusal_of refuses fault) r → ErrorIs (IsOther from) r
+fault_no_memory from at other (missing n) r c = subst (ErrorIs (IsOther from)) (sym c) tt
+fault_no_memory from at other tag_fault r c = subst (ErrorIs (IsOther from)) (sym c.2) (inl (_, λ q. cc, c.1))
+fault_no_memory from at other length_fault r c = subst (ErrorIs (IsOther from)) (sym c.2) (inl (_, λ q. cc, c.1))
 fault_no_memory from at other (rule_fault violation) r c =
-    subst (HeldIn (IsOther from)) (sym c.2) (inl (_, other violation, c.1))
-fault_no_memory from at other depth_fault r c = subst (HeldIn (IsOther from)) (sym c.2) (inl (_, λ q. cc, c.1))
+    subst (ErrorIs (IsOther from)) (sym c.2) (inl (_, other violation, c.1))
+fault_no_memory from at other depth_fault r c = subst (ErrorIs (IsOther from)) (sym c.2) (inl (_, λ q. cc, c.1))
 
 -- where check and conversion do not allocate, no refusal reports out of memory
 pub element_no_memory : {T E : Type 0} (ElementOf : List ℕ → Parts → Type 0) (FaultOf : List ℕ → Fault → Type 0)
@@ -184,17 +187,17 @@ pub element_no_memory : {T E : Type 0} (ElementOf : List ℕ → Parts → Type 
     ((p : Parts) → check p (Err OutOfMemory) → ⊥) → ((any : Any) (e : E) → convert any (Err e) → IsOther from e) →
     (input : List ℕ) (answer : Result (List ℕ × T) (Refusal E)) →
     ElementGives ElementOf FaultOf (refusal_of refuses) check convert from input answer →
-    IfErr answer (HeldIn (IsOther from))
+    IfErr answer (ErrorIs (IsOther from))
 element_no_memory ElementOf FaultOf at other check convert from checked converted input (Ok x) g = tt
 element_no_memory ElementOf FaultOf at other check convert from checked converted input (Err r) (inl (fault, f, c)) =
     fault_no_memory from at other fault r c
 element_no_memory ElementOf FaultOf at other check convert from checked converted input (Err r)
     (inr (any, rest, begins, inl (e, c, (f, m, is)))) =
-    subst (HeldIn (IsOther from)) (sym is)
+    subst (ErrorIs (IsOther from)) (sym is)
     (inl (e, λ q. checked (parts_of any) (subst (λ (x : Error). check (parts_of any) (Err x)) q c), m))
 element_no_memory ElementOf FaultOf at other check convert from checked converted input (Err r)
     (inr (any, rest, begins, inr (c, (e, v, is)))) =
-    subst (HeldIn (IsOther from)) (sym is) (converted any e v)
+    subst (ErrorIs (IsOther from)) (sym is) (converted any e v)
 
 -- What is not allowed by DER is not refused as out of memory.
 pub der_violation_no_memory : (violation : Violation) → der_violation violation ≢ OutOfMemory

@@ -31,7 +31,8 @@ use Rattle.asn1_headers.specs.declared.error.Error.{Error}
 use Rattle.asn1_rs.specs.declared.asn1_types.set.set_of.SetOf.{SetOf}
 use Rattle.asn1_headers.specs.Answers.{Exactly, TellsMemory}
 use Rattle.asn1_headers.specs.declared.error.SerializeError.{SerializeError}
-use Rattle.asn1_rs.specs.Grammar.Form.{IsOneForm, IsOneValue, FitsElement, HasValues, IsStrict, universal, header_of}
+use Rattle.asn1_rs.specs.Grammar.Form.{IsOneForm, IsOneValue, FitsElement, HasValues, IsStrict, of_universal_class}
+use Rattle.asn1_rs.specs.Grammar.Form.{header_of}
 use Rattle.asn1_rs.specs.Grammar.Form.{WritesByValue, WritesForm, HasForm}
 use Rattle.asn1_rs.specs.Grammar.{IsOneBody, TakesBody, FormChecks, FormBodies, FormTakes, FormNumber, NoCheck, made}
 use Rattle.asn1_rs.specs.Grammar.{DerWord}
@@ -41,7 +42,7 @@ use Rattle.asn1_rs.specs.Any.{parts_of}
 use Rattle.asn1_rs.specs.Traits.{DerGives, OfParts, PassesAll}
 use Rattle.asn1_rs.specs.Checks.{CheckGives}
 use Rattle.asn1_rs.specs.Kinds.{IsExactCheck}
-use Rattle.asn1_rs.specs.Lists.{ShapedList, HasNumber, IsConstructed, ListCheck, StrictWord, SomeRefuses, ListTakes}
+use Rattle.asn1_rs.specs.Lists.{ShapedList, HasNumber, IsConstructed, ListCheck, StrictWord, SomeRefuses, ListConverts}
 use Rattle.asn1_rs.specs.ToDer.{HasNone, IsWritable, IntoVector, Writing, whole_octets, whole_refuses}
 use Rattle.asn1_rs.specs.Set.{Members, set_of, pairs_pass, members_if, members, is_below, is_other, ascends, Seen}
 use Rattle.asn1_rs.specs.Set.{SetBody, SetRow, SetForm, SetValues, SetInDer, set_grammar, multiset_grammar, member_grammar}
@@ -190,10 +191,10 @@ module _ {S W M : Type 0} (G : ItemGrammar S) (l : IsLawfulItem G) (of : List G.
   )
 
   -- A collection of lawful items is lawful, with what a reader by DER finds.
-  pub set_lawful : IsSet M → (DerBody : Parts → M → Type 0) → IsOneBody DerBody →
+  pub collection_lawful : IsSet M → (DerBody : Parts → M → Type 0) → IsOneBody DerBody →
       ((p : Parts) (m : M) → DerBody p m → SetValues of G.IsValue m) → FormBodies (SetForm of Each G.Form) DerBody →
       IsLawfulItem (set_grammar {W = W} G of worth Each DerBody)
-  set_lawful equality DerBody one values bodies = record {
+  collection_lawful equality DerBody one values bodies = record {
     one_equality = equality;
     der_element = λ o v w. (w.0, w.1);
     der_values = λ o m w. values w.0 m w.3;
@@ -221,7 +222,7 @@ module _ {S W M : Type 0} (G : ItemGrammar S) (l : IsLawfulItem G) (of : List G.
 pub multiset_lawful : {S W : Type 0} (items : W → List S) (G : ItemGrammar S) → IsLawfulItem G →
     IsLawfulItem (multiset_grammar items G)
 multiset_lawful items G l =
-    set_lawful G l multiset (λ w. multiset (map G.value (items w))) AnyList
+    collection_lawful G l multiset (λ w. multiset (map G.value (items w))) AnyList
     (λ vs ws h k e. permutation_from_multiset vs ws e) multiset_set (SetRow multiset G.Der)
     (body_seen multiset _ (list_body_one G.Der l.der_one (HasNumber 17)))
     (λ p m b. (b.0, b.1, list_body_values (HasNumber 17) G.Der G.IsValue l.der_values p b.0 b.2))
@@ -231,7 +232,7 @@ multiset_lawful items G l =
 pub member_lawful : {S W : Type 0} (test : S → S → Bool) (keys : W → List S) (G : ItemGrammar S) → IsLawfulItem G →
     IsLawfulItem (member_grammar test keys G)
 member_lawful test keys G l =
-    set_lawful G l set_of (λ w. members test G.value (keys w)) AllDiffer permutation_from_set
+    collection_lawful G l set_of (λ w. members test G.value (keys w)) AllDiffer permutation_from_set
     (⊎_set value_set_set (list_set l.one_equality)) (SetBody set_of G.Der)
     (body_seen set_of _ (list_body_one G.Der l.der_one (IsConstructed 17)))
     (λ p m b. (b.0, b.1, list_body_values (IsConstructed 17) G.Der G.IsValue l.der_values p b.0 b.2))
@@ -240,17 +241,17 @@ member_lawful test keys G l =
 -- What a set writes.
 
 -- a value beside what is written for an item that has it
-abbrev pub Writes : {S V : Type 0} → (S → V) → (S → List ℕ) → V → List ℕ → Type 0
-Writes {S} value octets v o = (x : S) × (value x ≡ v) × (octets x ≡ o)
+abbrev pub WrittenBeside : {S V : Type 0} → (S → V) → (S → List ℕ) → V → List ℕ → Type 0
+WrittenBeside {S} value octets v o = (x : S) × (value x ≡ v) × (octets x ≡ o)
 
 module _ {S V : Type 0} (value : S → V) (octets : S → List ℕ)
     (law : (x y : S) → value x ≡ value y → octets x ≡ octets y) where
   -- One value is written in one way.
-  writes_one : (v : V) (o p : List ℕ) → Writes value octets v o → Writes value octets v p → o ≡ p
+  writes_one : (v : V) (o p : List ℕ) → WrittenBeside value octets v o → WrittenBeside value octets v p → o ≡ p
   writes_one v o p a b = sym a.2 ∙ law a.0 b.0 (a.1 ∙ sym b.1) ∙ b.2
 
   -- The values of items stand beside what is written for them.
-  writes_zip : (xs : List S) → AllZip (Writes value octets) (map value xs) (map octets xs)
+  writes_zip : (xs : List S) → AllZip (WrittenBeside value octets) (map value xs) (map octets xs)
   writes_zip [] = tt
   writes_zip (x ∷ xs) = ((x, refl, refl), writes_zip xs)
 
@@ -259,9 +260,11 @@ module _ {S V : Type 0} (value : S → V) (octets : S → List ℕ)
       set_content octets xs ≡ set_content octets ys
   set_content_same xs ys m =
       ap concat (∥∥₁_elim m (strings_set _ _) (λ h.
-      let t = zip_permutation (Writes value octets) (map value xs) (map value ys) (map octets xs) h (writes_zip xs) in
+      let t =
+      zip_permutation (WrittenBeside value octets) (map value xs) (map value ys) (map octets xs) h (writes_zip xs)
+      in
       let k : t.0 ≡ map octets ys =
-      zip_right (Writes value octets) writes_one (map value ys) t.0 (map octets ys) t.1 (writes_zip ys) in
+      zip_right (WrittenBeside value octets) writes_one (map value ys) t.0 (map octets ys) t.1 (writes_zip ys) in
       arranged_same (map octets xs) (map octets ys) (subst (IsPermutation (map octets xs)) k t.2)))
 
 -- what is written for a set follows from its values
@@ -316,7 +319,7 @@ module _ {S V : Type 0} (value : S → V) (Form : V → Identifier → List ℕ 
         none_refuses refuses xs (λ k d h. none (slice_index_or xs k d) (a k d h)) e o)
 
     -- a set in DER form is written as its strict parts
-    pub set_writes_form : (i : Identifier) → i ≡ universal true 17 →
+    pub set_writes_form : (i : Identifier) → i ≡ of_universal_class true 17 →
         IsWritable (set_writing (λ (l : List S). l) w) xs × (true ≡ i.constructed) ×
         (set_content (whole_octets w) xs ≡ c) ×
         (header_octets 0 true 17 (length (set_content (whole_octets w) xs)) ≡ header_of i c)
@@ -350,7 +353,7 @@ module _ {V M : Type 0} (of : List V → M) (Each : List V → Type 0)
   set_has_form {S} value IsDer Form octets strict xs m d moved l =
       ∥∥₁_elim moved ∥∥₁_prop (λ p. ∥∥₁_map
       (zip_written value IsDer Form octets strict xs (All-permutation IsDer d.0 (map value xs) p d.3) short) (λ z. (
-        universal true 17,
+        of_universal_class true 17,
         (refl, joins p z),
       )))
     where
@@ -703,7 +706,7 @@ module _ {T V W M E : Type 0} {check : CheckGives} {Shape : Parts → Type 0} (c
     Exactly IsTruncated G value (TellsMemory allocates from) octets answer) where
   -- Making a set of an element is exact.
   pub set_takes : (any : Any) (answer : Result W E) → IsOctets any.content.now →
-      OfParts (ListTakes check holds reads from) any answer →
+      OfParts (ListConverts check holds reads from) any answer →
       TakesBody (Seen of (ShapedList Shape G)) worth true from (parts_of any) answer
   set_takes any (Ok w) o t = (
     map value t.1.0,
@@ -719,10 +722,10 @@ module _ {T V W M E : Type 0} {check : CheckGives} {Shape : Parts → Type 0} (c
 
   -- So is reading the element at the front by DER, and making a set of it.
   pub set_by_der_exact : (input : List ℕ) (answer : Result (List ℕ × W) (Refusal E)) →
-      DerGives PassesAll (OfParts (ListTakes check holds reads from)) from input answer →
+      DerGives PassesAll (OfParts (ListConverts check holds reads from)) from input answer →
       Exactly IsTruncatedIdentifier (DerWord NoCheck (Seen of (ShapedList Shape G))) worth (TellsMemory true from) input
       answer
-  set_by_der_exact = unchecked_exact (OfParts (ListTakes check holds reads from)) from (Seen of (ShapedList Shape G))
+  set_by_der_exact = unchecked_exact (OfParts (ListConverts check holds reads from)) from (Seen of (ShapedList Shape G))
       worth true set_takes
 
 -- What is told of sets in hand.

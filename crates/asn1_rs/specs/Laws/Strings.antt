@@ -8,7 +8,7 @@ use Rattle.asn1_headers.specs.Tag.{is_container_number}
 use Rattle.asn1_rs.specs.declared.asn1_types.strings.RestrictedString.{RestrictedString}
 use Rattle.asn1_rs.specs.Kinds.{IsExactConversion}
 use Rattle.asn1_rs.specs.Leaf.{IsLawfulLeaf, leaf_element}
-use Rattle.asn1_rs.specs.Strings.{text_leaf, string_leaf, StringGives, string_reading, text_of}
+use Rattle.asn1_rs.specs.Strings.{text_leaf, string_leaf, StringGives, string_reading, string_text}
 use Rattle.asn1_rs.specs.Laws.Checks.{content_check_is, exact_check, is_primitive_is}
 use Rattle.asn1_rs.specs.Laws.Leaf.{leaf_converts, leaf_lawful}
 use Rattle.asn1_rs.specs.LeafReading.{IsExactReading}
@@ -37,7 +37,7 @@ module _ {K : Type 0} (number : ℕ) (IsText : List ℕ → Type 0) (small : num
     (primitive : is_container_number number ≡ false) (utf8 : (octets : List ℕ) → IsText octets → IsUtf8 octets) where
   -- Strings whose contents octets are their text are lawful.
   pub string_lawful : IsLawfulLeaf (string_leaf {K = K} number IsText)
-  string_lawful = text_lawful number IsText text_of small primitive utf8
+  string_lawful = text_lawful number IsText string_text small primitive utf8
 
   -- a text that is read is borrowed beside
   pub string_converts : IsExactConversion (StringGives number IsText) (leaf_element (string_leaf {K = K} number IsText))
@@ -57,5 +57,5 @@ module _ {K : Type 0} (number : ℕ) (IsText : List ℕ → Type 0) (small : num
 
 -- strings are equal where their texts are
 pub string_equal : {K F : Type 0} (x y : RestrictedString K F) →
-    IsTrue (pointwise nat_eq (text_of x) (text_of y)) ↔ (text_of x ≡ text_of y)
-string_equal x y = pointwise_decides unsigned_Decides (text_of x) (text_of y)
+    IsTrue (pointwise nat_eq (string_text x) (string_text y)) ↔ (string_text x ≡ string_text y)
+string_equal x y = pointwise_decides unsigned_Decides (string_text x) (string_text y)

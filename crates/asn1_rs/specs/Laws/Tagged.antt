@@ -18,12 +18,12 @@ use Rattle.asn1_headers.specs.declared.error.Err.{Err as Refusal}
 use Rattle.asn1_headers.specs.declared.error.Error.{Error}
 use Rattle.asn1_headers.specs.declared.error.Error.TheVariants.{DerConstraintFailed}
 use Rattle.asn1_headers.specs.declared.error.SerializeError.{SerializeError}
-use Rattle.asn1_headers.specs.Answers.{Exactly, Front, IsOther, TellsMemory}
+use Rattle.asn1_headers.specs.Answers.{Exactly, HasPrefix, IsOther, TellsMemory}
 use Rattle.asn1_headers.specs.Class.{class_number}
-use Rattle.asn1_headers.specs.Error.{HeldIn}
+use Rattle.asn1_headers.specs.Error.{ErrorIs}
 use Rattle.asn1_rs.specs.Checks.{CheckGives, IsCheck}
 use Rattle.asn1_rs.specs.Grammar.{made, of_class}
-use Rattle.asn1_rs.specs.Tagged.{has_class, IsClassOf, ReadsWhole, number_of}
+use Rattle.asn1_rs.specs.Tagged.{has_class, IsClassOf, ReadsWhole, as_u32}
 use Rattle.asn1_rs.specs.ToDer.{HasNone, WrittenRefusal}
 use Rattle.asn1_rs.specs.Tagged.Writing.{UnderClass}
 use Rattle.asn1_rs.specs.Laws.Forms.{behind_header}
@@ -70,11 +70,11 @@ has_class_is class = record {
 -- Numbers of tags.
 
 -- the number of a tag is one that an element can have, and a number of such is its own
-pub number_fits : (n : ℕ) → number_of n < 2 ^ 32
+pub number_fits : (n : ℕ) → as_u32 n < 2 ^ 32
 number_fits n = omega arith
 
 -- A number that an element can have is its own.
-pub number_is : (n : ℕ) → n < 2 ^ 32 → number_of n ≡ n
+pub number_is : (n : ℕ) → n < 2 ^ 32 → as_u32 n ≡ n
 number_is n l = omega arith
 
 -- Parts, and what is written under a tag.
@@ -103,17 +103,17 @@ under_tag class count_refuses own few n o = (
 
 module _ {V : Type 0} (G : List ℕ → V → Type 0) where
   -- A word begins itself, and nothing is left.
-  pub whole_front : (o : List ℕ) (v : V) → G o v → Front G o v []
+  pub whole_front : (o : List ℕ) (v : V) → G o v → HasPrefix G o v []
   whole_front o v w = record { word = o; fits = w; is = sym (append-nil o) }
 
   -- A word that begins the octets, and leaves nothing, is all of them.
-  pub front_whole : (o rest : List ℕ) (v : V) → Front G o v rest → rest ≡ [] → G o v
+  pub front_whole : (o rest : List ℕ) (v : V) → HasPrefix G o v rest → rest ≡ [] → G o v
   front_whole o rest v f none =
       let e : o ≡ f.word = f.is ∙ ap (λ (r : List ℕ). f.word ++ r) none ∙ append-nil f.word in
       subst (λ (w : List ℕ). G w v) (sym e) f.fits
 
   -- Where one word alone begins an input, one that begins another leaves nothing of it.
-  pub none_left : IsPrefixFree G → (o rest : List ℕ) (v w : V) → Front G o v rest → G o w → rest ≡ []
+  pub none_left : IsPrefixFree G → (o rest : List ℕ) (v w : V) → HasPrefix G o v rest → G o w → rest ≡ []
   none_left one o rest v w f h =
       let same : (o ≡ f.word) × (w ≡ v) = one.one o f.word [] rest w v h f.fits (append-nil o ∙ f.is) in
       append_cancel_left f.word rest [] (sym f.is ∙ same.0 ∙ sym (append-nil f.word))
@@ -143,12 +143,12 @@ module _ {T V E : Type 0} (reads : List ℕ → Result (List ℕ × T) (Refusal 
 pub whole_no_memory : {T E : Type 0} (reads : List ℕ → Result (List ℕ × T) (Refusal E) → Type 0)
     (from : Error → E → Type 0) →
     ((octets : List ℕ) (answer : Result (List ℕ × T) (Refusal E)) → reads octets answer →
-    IfErr answer (HeldIn (IsOther from))) →
-    (octets : List ℕ) (r : Refusal E) → ReadsWhole reads from octets (Err r) → HeldIn (IsOther from) r
+    IfErr answer (ErrorIs (IsOther from))) →
+    (octets : List ℕ) (r : Refusal E) → ReadsWhole reads from octets (Err r) → ErrorIs (IsOther from) r
 whole_no_memory reads from asks_no_memory octets r (Ok y, g, (some, (e, made, is))) =
-    subst (HeldIn (IsOther from)) (sym is) (inl (DerConstraintFailed TrailingOctets, λ q. cc, made))
+    subst (ErrorIs (IsOther from)) (sym is) (inl (DerConstraintFailed TrailingOctets, λ q. cc, made))
 whole_no_memory reads from asks_no_memory octets r (Err own, g, is) =
-    subst (HeldIn (IsOther from)) (sym is) (asks_no_memory octets (Err own) g)
+    subst (ErrorIs (IsOther from)) (sym is) (asks_no_memory octets (Err own) g)
 
 -- Refusals, and equality.
 

@@ -3,7 +3,7 @@ use Rattle.std.specs.Prelude.{◌≡◌, ℕ, ◌<◌, ◌^◌, Bool, true, List
 use Rattle.x690.specs.Collections.{AllDiffer, AnyList}
 use Rattle.x690.specs.Identifiers.{Identifier}
 use Rattle.asn1_rs.specs.Grammar.Form.{IsStrict}
-use Rattle.asn1_rs.specs.Grammar.Item.{ItemGrammar, IsLawfulItem, IsLawfulWriting, by_held}
+use Rattle.asn1_rs.specs.Grammar.Item.{ItemGrammar, IsLawfulItem, IsLawfulWriting, by_inner}
 use Rattle.asn1_rs.specs.Kinds.Writing.{list_writing, set_writing}
 use Rattle.asn1_rs.specs.Lists.{list_grammar}
 use Rattle.asn1_rs.specs.Set.{member_grammar, multiset_grammar, set_of}
@@ -11,7 +11,7 @@ use Rattle.asn1_rs.specs.Tagged.Explicit.{explicit_grammar}
 use Rattle.asn1_rs.specs.Tagged.Headed.{explicit_headed, implicit_headed}
 use Rattle.asn1_rs.specs.Tagged.Implicit.{implicit_grammar}
 use Rattle.asn1_rs.specs.Tagged.Writing.{explicit_under, headed_writing, implicit_under, tag_writing}
-use Rattle.asn1_rs.specs.ToDer.{Writing, held_writing, whole_octets, whole_refuses}
+use Rattle.asn1_rs.specs.ToDer.{Writing, inner_writing, whole_octets, whole_refuses}
 use Rattle.x690.specs.Collections.{multiset}
 use Rattle.x690.specs.Laws.Collections.{permutation_from_multiset}
 use Rattle.asn1_rs.specs.Laws.Forms.{der_strict, behind_header, whole_writable}
@@ -29,9 +29,9 @@ use Rattle.asn1_rs.specs.Laws.Tagged.Implicit.{implicit_by_value, implicit_has_f
 -- What holds an item.
 
 -- what holds one item, and nothing else
-pub held_lawful_writing : {S T : Type 0} (held : T → S) (G : ItemGrammar S) (w : Writing S) → IsLawfulWriting G w →
-    IsLawfulWriting (by_held held G) (held_writing held w)
-held_lawful_writing held G w l = record {
+pub inner_lawful_writing : {S T : Type 0} (held : T → S) (G : ItemGrammar S) (w : Writing S) → IsLawfulWriting G w →
+    IsLawfulWriting (by_inner held G) (inner_writing held w)
+inner_lawful_writing held G w l = record {
   tells_all = λ x. l.tells_all (held x);
   by_value = λ x y. l.by_value (held x) (held y);
   form = λ x. l.form (held x);

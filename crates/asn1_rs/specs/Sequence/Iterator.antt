@@ -82,8 +82,8 @@ abbrev pub IsMemory : {E : Type 0} → Bool → (Error → E → Type 0) → E �
 IsMemory allocates from e = IsTrue allocates × from errors.OutOfMemory e
 
 -- where no refusal is told
-abbrev pub TellsNothing : {E : Type 0} → List ℕ → E → Type 0
-TellsNothing octets e = ⊥
+abbrev pub ReportsNothing : {E : Type 0} → List ℕ → E → Type 0
+ReportsNothing octets e = ⊥
 
 -- the library's refusal itself, where a reader makes no other of it
 abbrev pub IsSame : Error → Error → Type 0

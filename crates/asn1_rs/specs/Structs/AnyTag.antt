@@ -3,10 +3,13 @@
 use Rattle.std.specs.Prelude.{◌≡◌, ◌&&◌, ℕ, ◌<◌, Bool, true, Option}
 use Rattle.x690.specs.Identifiers.{Identifier}
 use Rattle.asn1_rs.specs.declared.asn1_types.any.Any.{Any}
+use Rattle.asn1_rs.specs.declared.asn1_types.any.kept.KeptAny.{KeptAny}
+use Rattle.asn1_rs.specs.Any.Kept.{kept_element, kept_element_writing}
 use Rattle.asn1_rs.specs.Any.Value.{any_element}
 use Rattle.asn1_rs.specs.Any.Writing.{element_writing}
 use Rattle.asn1_rs.specs.Kinds.{item_grammar}
 use Rattle.asn1_rs.specs.Optional.{option_writing}
+use Rattle.asn1_rs.specs.Laws.Any.Kept.{kept_element_lawful, kept_element_lawful_writing}
 use Rattle.asn1_rs.specs.Laws.Any.Value.{element_lawful}
 use Rattle.asn1_rs.specs.Laws.Any.Writing.{element_lawful_writing}
 use Rattle.asn1_rs.specs.Laws.Kinds.{lawful_item}
@@ -47,6 +50,16 @@ any_type = record {
   sound = true;
   lawful = λ s. lawful_item any_element element_lawful;
   written = λ s. element_lawful_writing;
+}
+
+-- and such elements whose octets are borrowed or owned
+abbrev pub kept_any_type : ItemTypeOf KeptAny
+kept_any_type = record {
+  grammar = item_grammar kept_element;
+  writing = kept_element_writing;
+  sound = true;
+  lawful = λ s. lawful_item kept_element kept_element_lawful;
+  written = λ s. kept_element_lawful_writing;
 }
 
 -- values with the header of their explicit tag

@@ -9,7 +9,7 @@ use Rattle.asn1_headers.specs.declared.error.Err.{Err as Refusal}
 use Rattle.asn1_headers.specs.declared.error.Error.{Error}
 use Rattle.asn1_headers.specs.declared.error.Error.TheVariants as errors
 use Rattle.asn1_headers.specs.Answers.{IsOther}
-use Rattle.asn1_headers.specs.Error.{HeldIn}
+use Rattle.asn1_headers.specs.Error.{ErrorIs}
 use Rattle.asn1_rs.specs.Fields.{FieldList, no_fields, fields_writing}
 use Rattle.asn1_rs.specs.Grammar.{FormNumber, FormClass, FormTakes}
 use Rattle.asn1_rs.specs.Grammar.Item.{ItemGrammar, IsLawfulItem, IsLawfulWriting}
@@ -177,7 +177,7 @@ struct_type T = record {
 pub record AnswersField {S : Type 0} (rules : EncodingRules) (F : FieldGrammar S) (octets : List ℕ)
     (answer : Result (List ℕ × S) (Refusal Error)) : Type 0 where
   pub exact : IsOctets octets → ReadsField rules F octets answer
-  pub no_memory : F.allocates ≡ false → IfErr answer (HeldIn (IsOther (λ (x y : Error). y ≡ x)))
+  pub no_memory : F.allocates ≡ false → IfErr answer (ErrorIs (IsOther (λ (x y : Error). y ≡ x)))
 
 -- What the reader of a row may answer.
 pub record AnswersRow {S : Type 0} (rules : EncodingRules) (R : RowGrammar S) (octets : List ℕ)

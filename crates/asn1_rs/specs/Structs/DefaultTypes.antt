@@ -13,7 +13,7 @@ use Rattle.x690.specs.Signed.{IsSigned}
 use Rattle.asn1_headers.specs.declared.error.Err.{Err as Refusal}
 use Rattle.asn1_headers.specs.declared.error.Error.{Error}
 use Rattle.asn1_headers.specs.Answers.{Exactly, TellsMemory, IsOther}
-use Rattle.asn1_headers.specs.Error.{HeldIn}
+use Rattle.asn1_headers.specs.Error.{ErrorIs}
 use Rattle.asn1_rs.specs.declared.asn1_types.enumerated.Enumerated.{Enumerated}
 use Rattle.asn1_rs.specs.declared.asn1_types.oid.Oid.{Oid}
 use Rattle.asn1_rs.specs.Boolean.{bool_leaf}
@@ -100,7 +100,7 @@ module _ {S W : Type 0} (inner : W → S) (D : LawfulDefaultOf S) (G : ItemGramm
       reads octets answer → Exactly (IsTruncatedBy rules) (words_by rules G) G.value
       (TellsMemory G.allocates (λ (x y : Error). y ≡ x)) octets answer)
       (never_oom : G.allocates ≡ false → (octets : List ℕ) (answer : Result (List ℕ × S) (Refusal Error)) →
-      reads octets answer → IfErr answer (HeldIn (IsOther (λ (x y : Error). y ≡ x)))) where
+      reads octets answer → IfErr answer (ErrorIs (IsOther (λ (x y : Error). y ≡ x)))) where
     abbrev numbers : Numbers
     numbers = among (D.of.number ∷ [])
 

@@ -2,20 +2,20 @@
 use Rattle.std.specs.Prelude.{◌≡◌, ◌≢◌, ◌⊎◌, ◌∷◌, ℕ, Bool, true, if◌then◌else◌, List, []}
 use Rattle.std.specs.Prelude.{Option, Some, None, Result, Ok, Err, MatchResult}
 use Rattle.x690.specs.Identifiers.{Identifier}
-use Rattle.asn1_headers.specs.Answers.{Front}
+use Rattle.asn1_headers.specs.Answers.{HasPrefix}
 use Rattle.asn1_headers.specs.declared.error.Err.{Err as Refusal}
 use Rattle.asn1_headers.specs.declared.error.Error.{Error}
 use Rattle.asn1_rs.specs.Grammar.Form.{IsStrict}
 use Rattle.asn1_rs.specs.Grammar.Item.{ItemGrammar}
 use Rattle.asn1_rs.specs.Optional.{option_writing}
-use Rattle.asn1_rs.specs.ToDer.{Writing, held_writing}
+use Rattle.asn1_rs.specs.ToDer.{Writing, inner_writing}
 use Rattle.asn1_rs.specs.Structs.{FieldGrammar, words_by, among, left_out_by}
 
 -- The default is read where the octets say that the field is left out. Else a word of its type begins them, whose value
 -- may be the default too.
 abbrev pub DefaultTakes : {V : Type 0} → V → (List ℕ → Type 0) → (List ℕ → V → Type 0) → List ℕ → V → List ℕ → Type 0
 DefaultTakes default LeftOut Words octets v rest =
-    (LeftOut octets × (v ≡ default) × (rest ≡ octets)) ⊎ ((LeftOut octets → ⊥) × Front Words octets v rest)
+    (LeftOut octets × (v ≡ default) × (rest ≡ octets)) ⊎ ((LeftOut octets → ⊥) × HasPrefix Words octets v rest)
 
 -- its strict octets: of the default none, of another value the strict encoding
 abbrev pub DefaultStrict : {V : Type 0} → V → (V → Identifier → List ℕ → Type 0) → V → List ℕ → Type 0
@@ -41,7 +41,7 @@ unless_default inner is_default x = if is_default (inner x) then None else Some 
 
 -- It is written as an optional value is.
 abbrev pub default_writing : {S W : Type 0} → (W → S) → (S → Bool) → Writing S → Writing W
-default_writing inner is_default w = held_writing (unless_default inner is_default) (option_writing w)
+default_writing inner is_default w = inner_writing (unless_default inner is_default) (option_writing w)
 
 -- What the reader of a field with a default may answer. It is an item of the default, with all octets as the rest,
 -- exactly where the octets say that it is left out. Else it is what the reader of the type answers, whose refusal is

@@ -53,7 +53,7 @@ use Rattle.asn1_rs.specs.Lists.{list_grammar}
 use Rattle.asn1_rs.specs.Oid.{oid_element, oid_writing}
 use Rattle.asn1_rs.specs.Set.{multiset_grammar}
 use Rattle.asn1_rs.specs.Strings.{string_leaf}
-use Rattle.asn1_rs.specs.Tagged.{number_of}
+use Rattle.asn1_rs.specs.Tagged.{as_u32}
 use Rattle.asn1_rs.specs.Tagged.Explicit.{explicit_grammar}
 use Rattle.asn1_rs.specs.Tagged.Implicit.{implicit_grammar}
 use Rattle.asn1_rs.specs.Tagged.Writing.{explicit_under, implicit_under, tag_writing}
@@ -251,15 +251,15 @@ multiset_type items T = multiset_over items (item_of T)
 abbrev pub explicit_over : {S W : Type 0} (class number : ℕ) → (W → S) → ItemTypeOf S → LawfulTypeOf W
 explicit_over class number inner T = record {
   class = class;
-  number = number_of number;
-  numbers = number_of number ∷ [];
+  number = as_u32 number;
+  numbers = as_u32 number ∷ [];
   single = true;
   grammar = explicit_grammar class number inner T.grammar;
   writing = tag_writing class number inner (explicit_under T.writing) T.writing;
   takes = λ other. nat_eq other class;
   sound = T.sound;
   lawful = λ s. explicit_lawful class number inner T.grammar (T.lawful s);
-  begins = one_number (explicit_grammar class number inner T.grammar).Form (number_of number)
+  begins = one_number (explicit_grammar class number inner T.grammar).Form (as_u32 number)
       (explicit_number class number T.grammar.Form);
   numbered = λ s. explicit_number class number T.grammar.Form;
   classed = λ s v i c f. ap (λ (z : Identifier). z.class) f.id_is;
@@ -277,8 +277,8 @@ explicit_type class number inner T = explicit_over class number inner (item_of T
 abbrev pub implicit_type : {S W : Type 0} (class number : ℕ) → (W → S) → LawfulTypeOf S → LawfulTypeOf W
 implicit_type class number inner T = record {
   class = class;
-  number = number_of number;
-  numbers = number_of number ∷ [];
+  number = as_u32 number;
+  numbers = as_u32 number ∷ [];
   single = true;
   grammar = implicit_grammar class number T.number inner T.grammar;
   writing = tag_writing class number inner (implicit_under T.writing) T.writing;
@@ -289,7 +289,7 @@ implicit_type class number inner T = record {
       implicit_lawful class number T.number inner T.grammar l T.fits
       (T.numbered (first_holds T.single (T.sound && T.takes class) s))
       (T.takes_class (first_holds T.sound (T.takes class) own) class (second_holds T.sound (T.takes class) own));
-  begins = one_number (implicit_grammar class number T.number inner T.grammar).Form (number_of number)
+  begins = one_number (implicit_grammar class number T.number inner T.grammar).Form (as_u32 number)
       (implicit_number class number T.grammar.Form);
   numbered = λ s. implicit_number class number T.grammar.Form;
   classed = λ s v i c f. ap (λ (z : Identifier). z.class) f.id_is;

@@ -12,7 +12,7 @@ use Rattle.asn1_headers.specs.declared.error.Error.{Error}
 use Rattle.asn1_headers.specs.declared.error.Error.TheVariants.{DerConstraintFailed}
 use Rattle.asn1_rs.specs.declared.asn1_types.any.Any.{Any}
 use Rattle.asn1_rs.specs.Any.{parts_of}
-use Rattle.asn1_headers.specs.Answers.{Front}
+use Rattle.asn1_headers.specs.Answers.{HasPrefix}
 use Rattle.asn1_headers.specs.Ber.{max_depth}
 use Rattle.asn1_rs.specs.Checks.{CheckGives, IsCounted, ◌before◌, has_number, is_constructed, is_counted}
 use Rattle.asn1_headers.specs.Error.{FlattenedTo, Converted}
@@ -30,7 +30,7 @@ tag_checks class number = has_number number before is_constructed before has_cla
 pub record ExplicitBody {V : Type 0} (class number : ℕ) (G : List ℕ → V → Type 0) (p : Parts) (v : V) : Type 0 where
   pub tag : tag_checks class number p (Ok tt)
   pub rest : List ℕ
-  pub inner : Front G p.content v rest
+  pub inner : HasPrefix G p.content v rest
 
 -- An element under the tag, whose contents octets are a word of the value and nothing else.
 pub record ExplicitWhole {V : Type 0} (class number : ℕ) (G : List ℕ → V → Type 0) (p : Parts) (v : V) : Type 0 where
@@ -81,11 +81,11 @@ InnerTakes {T} {E} from answer (Err e) = (r : Refusal E) × (answer ≡ Err r) �
 
 -- What the conversion of an element may answer. It is the value that its contents octets begin with, or the refusal of
 -- the tag, or the value's own.
-abbrev pub ExplicitTakes : {T W E : Type 0} → ℕ → ℕ → (W → T) → (List ℕ → Result (List ℕ × T) (Refusal E) → Type 0) →
+abbrev pub ExplicitConverts : {T W E : Type 0} → ℕ → ℕ → (W → T) → (List ℕ → Result (List ℕ × T) (Refusal E) → Type 0) →
     (Error → E → Type 0) → Parts → Result W E → Type 0
-ExplicitTakes class number inner reads from p (Ok w) =
+ExplicitConverts class number inner reads from p (Ok w) =
     tag_checks class number p (Ok tt) × ((rest : List ℕ) × reads p.content (Ok (rest, inner w)))
-ExplicitTakes {T} {W} {E} class number inner reads from p (Err e) =
+ExplicitConverts {T} {W} {E} class number inner reads from p (Err e) =
     ((refusal : Error) × tag_checks class number p (Err refusal) × from refusal e) ⊎
     (tag_checks class number p (Ok tt) ×
     ((r : Refusal E) × reads p.content (Err r) × FlattenedTo (λ x y. y ≡ x) from r e))
@@ -104,10 +104,10 @@ ExplicitReads {T} {E} class number reads from p (Err r) =
 abbrev pub ExplicitGives : {T W E : Type 0} → ℕ → ℕ → (W → T) → (List ℕ → Result (List ℕ × T) (Refusal E) → Type 0) →
     (Error → E → Type 0) → List ℕ → Result (List ℕ × W) (Refusal E) → Type 0
 ExplicitGives class number inner reads from input (Ok x) =
-    (p : Parts) × Front IsDerElement input p x.0 × ExplicitReads class number reads from p (Ok (inner x.1))
+    (p : Parts) × HasPrefix IsDerElement input p x.0 × ExplicitReads class number reads from p (Ok (inner x.1))
 ExplicitGives class number inner reads from input (Err r) =
     ((fault : Fault) × DerElementFault input fault × Converted from (der_refusal fault) r) ⊎ ((p : Parts) ×
-    (rest : List ℕ) × Front IsDerElement input p rest × ExplicitReads class number reads from p (Err r))
+    (rest : List ℕ) × HasPrefix IsDerElement input p rest × ExplicitReads class number reads from p (Err r))
 
 -- What checking the element that was read may answer, where it is to be all of the octets. It is the check's answer,
 -- and after that the refusal of what is left; or it is the refusal of the reading.

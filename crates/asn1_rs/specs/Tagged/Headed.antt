@@ -3,7 +3,7 @@
 use Rattle.std.specs.Prelude.{◌≡◌, ℕ, ◌<◌, ◌^◌, Bool, true, List}
 use Rattle.x690.specs.Identifiers.{Identifier}
 use Rattle.x690.specs.Elements.{Parts, IsDerElement}
-use Rattle.asn1_headers.specs.Answers.{Front}
+use Rattle.asn1_headers.specs.Answers.{HasPrefix}
 use Rattle.asn1_rs.specs.Grammar.{DerWord, NoCheck}
 use Rattle.asn1_rs.specs.Grammar.Item.{ItemGrammar, ber_words}
 use Rattle.asn1_rs.specs.Tagged.Explicit.{ExplicitCheck, ExplicitForm}
@@ -22,7 +22,7 @@ pub record IsBorne (i : Identifier) : Type 0 where
 pub record HeadedBody {V : Type 0} (G : List ℕ → V → Type 0) (p : Parts) (v : Identifier × V) : Type 0 where
   pub id : v.0 ≡ p.id
   pub rest : List ℕ
-  pub inner : Front G p.content v.1 rest
+  pub inner : HasPrefix G p.content v.1 rest
 
 -- An element of this identifier, whatever it is, whose contents octets are a word of the value and nothing else.
 pub record HeadedWhole {V : Type 0} (G : List ℕ → V → Type 0) (p : Parts) (v : Identifier × V) : Type 0 where

@@ -70,9 +70,9 @@ ConvertsUnder inner own converts any (Ok w) = (other : Any) × IsUnder own any o
 ConvertsUnder inner own converts any (Err e) = (other : Any) × IsUnder own any other × converts other (Err e)
 
 -- what the conversion of an element may answer: the refusal of the tag, or else what the value's conversion answers
-abbrev pub ImplicitTakes : {T W E : Type 0} → ℕ → ℕ → (W → T) → Tag → (Any → Result T E → Type 0) →
+abbrev pub ImplicitConverts : {T W E : Type 0} → ℕ → ℕ → (W → T) → Tag → (Any → Result T E → Type 0) →
     (Error → E → Type 0) → Any → Result W E → Type 0
-ImplicitTakes class number inner own converts from =
+ImplicitConverts class number inner own converts from =
     ChecksAndConverts (implicit_checks class number) (ConvertsUnder inner own converts) from
 
 -- what a check of an element may answer that looks at it under that tag number

@@ -40,11 +40,11 @@ TakesExplicit reads any rest (Err r) = reads any.content.now (Err r)
 
 -- By DER the contents octets are the value's and nothing else: what is left there is refused, after the value's own
 -- refusals.
-abbrev pub TakesWhole : {K T E : Type 0} → (List ℕ → Result (List ℕ × T) (Refusal E) → Type 0) →
+abbrev pub TakesWholeContent : {K T E : Type 0} → (List ℕ → Result (List ℕ × T) (Refusal E) → Type 0) →
     (Error → E → Type 0) → OfElement (Result (List ℕ × TaggedParser K T E) (Refusal E))
-TakesWhole reads from any rest (Ok x) = (x.0 ≡ rest) × (parser_header x.1 ≡ any.header) ×
+TakesWholeContent reads from any rest (Ok x) = (x.0 ≡ rest) × (parser_header x.1 ≡ any.header) ×
     ReadsWhole reads from any.content.now (Ok (inner_of x.1))
-TakesWhole reads from any rest (Err r) = ReadsWhole reads from any.content.now (Err r)
+TakesWholeContent reads from any rest (Err r) = ReadsWhole reads from any.content.now (Err r)
 
 -- what checking an element and then converting it may answer:
 -- its value, or the refusal of the check, or that of the conversion
@@ -65,16 +65,16 @@ TakesImplicit {K} {T} {E} tag converts any rest (Err r) =
     (other : Any) × IsUnder tag any other × ((e : E) × converts other (Err e) × (r ≡ refused e))
 
 -- what looking at the tag number of a header may answer
-abbrev pub HasNumber : Tag → Header → Result (Unit {0}) Error → Type 0
-HasNumber tag header (Ok x) = tag_of header ≡ tag
-HasNumber tag header (Err e) = (tag_of header ≢ tag) × (e ≡ UnexpectedTag (Some tag) (tag_of header))
+abbrev pub TagCheckGives : Tag → Header → Result (Unit {0}) Error → Type 0
+TagCheckGives tag header (Ok x) = tag_of header ≡ tag
+TagCheckGives tag header (Err e) = (tag_of header ≢ tag) × (e ≡ UnexpectedTag (Some tag) (tag_of header))
 
 -- what looking at the class of a header and then at its tag number may answer
 abbrev pub HasTag : Class → Tag → Header → Result (Unit {0}) Error → Type 0
 HasTag class tag header (Ok x) = (class_of header ≡ class) × (tag_of header ≡ tag)
 HasTag class tag header (Err e) =
     ((class_of header ≢ class) × (e ≡ UnexpectedClass (Some class) (class_of header))) ⊎
-    ((class_of header ≡ class) × HasNumber tag header (Err e))
+    ((class_of header ≡ class) × TagCheckGives tag header (Err e))
 
 -- What asking something of the header of what was read may answer: what was read and the rest, or the refusal.
 abbrev pub Asks : {K T E : Type 0} → (Header → Result (Unit {0}) Error → Type 0) → (Error → E → Type 0) → List ℕ →

@@ -3,7 +3,7 @@ ghost use Rattle.std.specs.Prelude.{◌≡◌, ◌∷◌, ◌++◌, ◌+◌, ◌
 ghost use Rattle.std.specs.Cow.{IsBorrowedSlice};
 ghost use Rattle.asn1_rs.specs.Any.{parts_of};
 ghost use Rattle.asn1_rs.specs.BitString.{bit_string_leaf, bit_string_constraints, bit_string_octets, data_of, bit_of};
-ghost use Rattle.asn1_rs.specs.BitString.{bit_string_number, IsZeroPadded};
+ghost use Rattle.asn1_rs.specs.BitString.{bit_string_number, AreStrictBits, IsZeroPadded};
 ghost use Rattle.asn1_rs.specs.Kinds.Writing.{universal_header};
 ghost use Rattle.asn1_rs.specs.Leaf.{LeafGives};
 ghost use Rattle.asn1_rs.specs.Laws.BitString.{bit_string_lawful, bit_string_equal};
@@ -14,6 +14,7 @@ ghost use Rattle.asn1_headers.specs.Writer.{Wrote, MayRefuse};
 
 use crate::asn1_types::any::Any;
 use crate::header::put_behind;
+use crate::kinds::der_form::TellsDerElement;
 use crate::kinds::leaf::{ConvertsLeaf, LeafType};
 use crate::kinds::writing::WritesElement;
 use crate::kinds::{ElementKind, HasKind, TagNumber};
@@ -104,6 +105,17 @@ fn is_zero_padded(unused_bits: u8, octets: &[u8]) -> bool
         Some(octet) => unused_bits <= 7 && u32::from(unused_bits) <= octet.trailing_zeros(),
         None => unused_bits <= 7,
     }
+}
+
+/// Whether at most seven bits are unused, and these are zero, and none is unused where there is no octet.
+fn are_strict_bits(unused_bits: u8, octets: &[u8]) -> bool
+    ensures { IsTrue result ↔ AreStrictBits (record { unused = unused_bits; octets = octets.now }) }
+{
+    assert_octets_valid(octets);
+    if octets.is_empty() {
+        return unused_bits == 0;
+    }
+    is_zero_padded(unused_bits, octets)
 }
 
 /// Appends the count of unused bits, and then the octets.
@@ -237,6 +249,14 @@ impl WritesElement for BitString<'_> {
     }
 
     ghost written = { leaf_written bit_string_leaf bit_string_lawful };
+}
+
+/// Where at most seven bits are unused, and these are zero, and none is unused where there is no octet (X.690 8.6.2,
+/// 11.2.1).
+impl TellsDerElement for BitString<'_> {
+    fn is_der_element(&self) -> bool {
+        are_strict_bits(self.unused_bits, self.as_bytes())
+    }
 }
 
 impl LawfulMember for BitString<'_> {

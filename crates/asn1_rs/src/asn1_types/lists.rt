@@ -1,18 +1,21 @@
 //! Items of lists: how they are read, checked, counted and written.
 ghost use Rattle.std.specs.Prelude.{◌≡◌, ◌⊎◌, ◌∷◌, Some, ◌≤◌, ◌<◌, ℕ, List, true, false, length, map, IfOk, IfErr};
-ghost use Rattle.std.specs.Prelude.{◌+◌, IsErr};
+ghost use Rattle.std.specs.Prelude.{◌+◌, ◌↔◌, IsErr, IsTrue};
 ghost use Rattle.std.specs.declared.result.Result.TheVariants as results;
 ghost use Rattle.std.specs.List.{All, flat_map};
 ghost use Rattle.std.specs.Iterator.{IsFinite, IsFiniteIterable, Drains};
 ghost use Rattle.x690.specs.Octets.{IsOctets};
-ghost use Rattle.x690.specs.Elements.{Parts};
+ghost use Rattle.x690.specs.Elements.{IsDerElement, Parts};
+ghost use Rattle.x690.specs.Faults.{DerElementFault};
+ghost use Rattle.asn1_headers.specs.Header.Reading.{der_refusal};
 ghost use Rattle.asn1_rs.specs.Any.{parts_of};
+ghost use Rattle.asn1_rs.specs.Laws.Any.Decoded.{converted_reads};
 ghost use Rattle.asn1_rs.specs.Checks.{has_number};
 ghost use Rattle.asn1_rs.specs.Traits.{OfParts, DerGives, PassesAll};
 ghost use Rattle.asn1_headers.specs.Answers.{seen};
-ghost use Rattle.asn1_rs.specs.Lists.{IsListOr, ItemsGive, ListGives, ListTakes, ItemsCheckGives};
+ghost use Rattle.asn1_rs.specs.Lists.{IsListOr, ItemsGive, ListGives, ListConverts, ItemsCheckGives};
 ghost use Rattle.asn1_rs.specs.Lists.{ListCheckGives, FirstChecked, GivesItems, PushesItem, ArePacked, SomeRefuses};
-ghost use Rattle.asn1_rs.specs.Lists.{ListBody, ListOf, MadeOf, listed};
+ghost use Rattle.asn1_rs.specs.Lists.{ListBody, ListOf, IsListMadeOf, listed};
 ghost use Rattle.asn1_headers.specs.declared.error.SerializeError.{SerializeError};
 ghost use Rattle.asn1_headers.specs.declared.error.Error.{Error};
 ghost use Rattle.asn1_headers.specs.declared.error.Error.TheVariants as errors;
@@ -27,10 +30,12 @@ use crate::asn1_types::sequence::iterator::{ReadsItems, ReadsWords, SequenceIter
 use crate::der::element_by_der;
 use crate::header::add_counts;
 use crate::kinds::collections::CollectionKind;
+use crate::kinds::decoding::DecodesBy;
 use crate::kinds::reading::{
-    CheckBy, ConstructedForm, EncodingForm, FromAnyBy, FromDerBy, ListReader,
+    CheckBy, ConstructedForm, EncodingForm, FromAnyBy, FromDerBy, HasReader, ListReader,
 };
 use crate::laws::assert_valid::States;
+use crate::laws::der_form::Decides;
 use crate::to_der::ToDer;
 use crate::traits::{CheckDerConstraints, FromBer, FromDer, Tagged, converted};
 use asn1_headers::buffer::DerBuffer;
@@ -117,6 +122,14 @@ pub trait Listed: Tagged {
     ghost small: { (Self.TAG).0 < 31 };
 }
 
+/// A list or a set that asks of its items whether something holds of each.
+pub trait DecidesEach: Listed {
+    /// Whether what `P` asks holds of each item. The items are asked in their order, up to the first one of which it
+    /// does not.
+    fn decide_each<P: Decides<Self::Item>>(&self) -> bool
+        ensures { IsTrue result ↔ All P.says (Self.items self.now) };
+}
+
 /// A list: a type that is made of items, which stand in the contents octets of one element.
 // So one conversion serves all lists, a caller's too, at each error type that the items' reader has.
 pub trait FromItems: Tagged + Sized {
@@ -146,7 +159,7 @@ where
     type Refusal = E;
 
     ghost gives_by_kind = { OfParts
-        (ListTakes (IsListOr (L.TAG).0) L.holds T.ber_gives E.from_gives) };
+        (ListConverts (IsListOr (L.TAG).0) L.holds T.ber_gives E.from_gives) };
 
     fn convert_by_kind(alloc: Global, any: Any<'a>) -> Result<L, E> {
         list_of_element::<ConstructedForm, BerParser, L, T, E>(alloc, &any)
@@ -180,7 +193,7 @@ where
     L: FromItems<Item = T>,
     T: Drop,
     E: From<Error>,
-    ensures { ListTakes (F.form_gives (L.TAG).0) L.holds R.item_gives E.from_gives
+    ensures { ListConverts (F.form_gives (L.TAG).0) L.holds R.item_gives E.from_gives
         (parts_of any.now) result }
 {
     if let Err(e) = F::assert_form(L::TAG.0, any) {
@@ -197,7 +210,7 @@ where
     T: FromDer<'a, E> + Drop,
     E: From<Error>,
     ensures { DerGives PassesAll
-        (OfParts (ListTakes (F.form_gives (L.TAG).0) L.holds T.der_gives E.from_gives))
+        (OfParts (ListConverts (F.form_gives (L.TAG).0) L.holds T.der_gives E.from_gives))
         E.from_gives bytes.now (seen result) }
 {
     let (rest, any) = converted(element_by_der(bytes))?;
@@ -215,12 +228,30 @@ where
     E: From<Error>,
 {
     ghost gives_by_reader = { DerGives PassesAll
-        (OfParts (ListTakes (F.form_gives (L.TAG).0) L.holds T.der_gives E.from_gives))
+        (OfParts (ListConverts (F.form_gives (L.TAG).0) L.holds T.der_gives E.from_gives))
         E.from_gives };
 
     fn read_by_der(alloc: Global, bytes: &'a [u8]) -> ParseResult<'a, L, E> {
         list_by_der::<F, L, T, E>(alloc, bytes)
     }
+}
+
+/// The form of an element in hand is looked at, and then its items.
+impl<'a, F, L, T> DecodesBy<'a, ListReader<F>> for L
+where
+    F: EncodingForm,
+    L: FromItems<Item = T> + HasReader<Reader = ListReader<F>>,
+    T: FromDer<'a, Error> + Drop,
+{
+    ghost decode_gives = { OfParts
+        (ListConverts (F.form_gives (L.TAG).0) L.holds T.der_gives (λ e f. f ≡ e)) };
+
+    fn decode_element(alloc: Global, any: Any<'a>) -> Result<L, Error> {
+        list_of_element::<F, DerParser, L, T, Error>(alloc, &any)
+    }
+
+    ghost decodes = { converted_reads IsDerElement DerElementFault der_refusal (OfParts
+        (ListConverts (F.form_gives (L.TAG).0) L.holds T.der_gives (λ e f. f ≡ e))) };
 }
 
 /// What follows the first element by DER, if that keeps the constraints of an item.
@@ -299,6 +330,25 @@ where
     for item in items {
         P::state(item.deref());
     }
+}
+
+/// Whether what `P` asks holds of each item.
+pub(crate) fn decide_items<T, R, I, P>(items: I) -> bool
+where
+    P: Decides<T>,
+    R: Deref<Target = T> + Drop,
+    I: Iterator<Item = R> + Drop,
+    requires can { I.can_next items }
+    requires ends { IsFinite (I.remaining items) }
+    ensures { (xs : List T) → GivesItems I.next_gives R.deref_gives items xs →
+        (IsTrue result ↔ All P.says xs) }
+{
+    for item in items {
+        if !P::decide(item.deref()) {
+            return false;
+        }
+    }
+    true
 }
 
 /// How many octets the items are written in.
@@ -525,15 +575,15 @@ where
     F: ReadsWords<'a, T, E>,
     E: From<Error>,
     ensures taken { (number : ℕ) (p : Parts) (list : L) → IsOctets p.content →
-        ListTakes (IsListOr number) L.holds F.item_gives E.from_gives p (results.Ok list) →
-        MadeOf (ListBody number F.Words) F.value L.holds p list }
+        ListConverts (IsListOr number) L.holds F.item_gives E.from_gives p (results.Ok list) →
+        IsListMadeOf (ListBody number F.Words) F.value L.holds p list }
     ensures not_taken { (number : ℕ) (p : Parts) (e : E) → IsOctets p.content →
-        ListTakes (IsListOr number) L.holds F.item_gives E.from_gives p (results.Err e) →
+        ListConverts (IsListOr number) L.holds F.item_gives E.from_gives p (results.Err e) →
         E.from_gives errors.OutOfMemory e ⊎ HasNone (ListBody number F.Words p) }
     ensures read { (number : ℕ) (p : Parts) (list : L) → IsOctets p.content →
-        ListTakes (has_number number) L.holds F.item_gives E.from_gives p (results.Ok list) →
-        MadeOf (ListOf number F.Words) F.value L.holds p list }
+        ListConverts (has_number number) L.holds F.item_gives E.from_gives p (results.Ok list) →
+        IsListMadeOf (ListOf number F.Words) F.value L.holds p list }
     ensures not_read { (number : ℕ) (p : Parts) (e : E) → IsOctets p.content →
-        ListTakes (has_number number) L.holds F.item_gives E.from_gives p (results.Err e) →
+        ListConverts (has_number number) L.holds F.item_gives E.from_gives p (results.Err e) →
         E.from_gives errors.OutOfMemory e ⊎ HasNone (ListOf number F.Words p) }
 {}

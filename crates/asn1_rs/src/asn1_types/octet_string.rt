@@ -7,7 +7,7 @@ ghost use Rattle.asn1_rs.specs.Leaf.{LeafGives};
 ghost use Rattle.asn1_rs.specs.LeafReading.{leaf_reading, lent_reading};
 ghost use Rattle.asn1_rs.specs.Laws.Leaf.{leaf_exact, lent_exact, leaf_written};
 ghost use Rattle.asn1_rs.specs.Laws.OctetString.{octet_string_lawful, octet_string_equal, slice_lawful, slice_equal};
-ghost use Rattle.asn1_rs.specs.OctetString.{octet_string_leaf, slice_leaf, octets_of, cow_of};
+ghost use Rattle.asn1_rs.specs.OctetString.{octet_string_leaf, slice_leaf, string_octets, cow_of};
 
 use crate::asn1_types::any::Any;
 use crate::kinds::assert_valid::DerElement;
@@ -32,7 +32,7 @@ pub struct OctetString<'a> {
 impl<'a> OctetString<'a> {
     /// The octet string of these octets, which it borrows.
     pub const fn new(s: &'a [u8]) -> Self
-        ensures octets { octets_of result ≡ s.now }
+        ensures octets { string_octets result ≡ s.now }
         ensures borrowed { IsBorrowedSlice (cow_of result) }
     {
         OctetString {
@@ -63,18 +63,18 @@ impl<'a> OctetString<'a> {
 
     /// The octets.
     pub fn as_bytes(&self) -> &[u8]
-        ensures { result.now ≡ octets_of self.now }
+        ensures { result.now ≡ string_octets self.now }
     {
         self.as_cow().as_slice()
     }
 }
 
 impl<'a> From<&'a [u8]> for OctetString<'a> {
-    ghost from_gives = { λ s x. octets_of x ≡ s.now };
+    ghost from_gives = { λ s x. string_octets x ≡ s.now };
 
     /// The octet string of these octets, which it borrows.
     fn from(s: &'a [u8]) -> Self
-        ensures octets { octets_of result ≡ s.now }
+        ensures octets { string_octets result ≡ s.now }
         ensures borrowed { IsBorrowedSlice (cow_of result) }
     {
         OctetString::new(s)
@@ -137,7 +137,7 @@ impl DerElement for OctetString<'_> {
 }
 
 impl WritesOctets for OctetString<'_> {
-    ghost held = { octets_of };
+    ghost held = { string_octets };
 
     fn contents_octets(&self) -> &[u8] {
         self.as_bytes()

@@ -15,9 +15,9 @@ ghost use Rattle.asn1_rs.specs.Faults.{TellsHeaderFirst};
 ghost use Rattle.asn1_headers.specs.Ber.{max_depth, EndsWithin};
 ghost use Rattle.asn1_headers.specs.Header.Reading.{refusal_of, ber_violation, der_violation, HeaderGives};
 ghost use Rattle.asn1_rs.specs.Grammar.Item.{ber_words};
-ghost use Rattle.asn1_rs.specs.Optional.{IsLeftOut, IsAtEnd, OptionGives, ReadsHeldBack, ReadsNoneBefore};
-ghost use Rattle.asn1_rs.specs.Optional.{ReadsNoneAtEnd, in_some, held_or, is_of_another_tag, IsWithoutRawTag, none_or};
-ghost use Rattle.asn1_rs.specs.Optional.{NoneOrConverted, option_writing, RefusesAsHeld, StaysIn};
+ghost use Rattle.asn1_rs.specs.Optional.{IsLeftOut, IsAtEnd, OptionGives, ReadsSomeBack, ReadsNoneBefore};
+ghost use Rattle.asn1_rs.specs.Optional.{ReadsNoneAtEnd, in_some, some_or, is_of_another_tag, IsWithoutRawTag, none_or};
+ghost use Rattle.asn1_rs.specs.Optional.{NoneOrConverted, option_writing, RefusesAsSome, StaysIn};
 ghost use Rattle.asn1_rs.specs.Traits.{BerGives, DerGives};
 
 use crate::asn1_types::any::Any;
@@ -183,7 +183,7 @@ impl<T: CheckDerConstraints> CheckDerConstraints for Option<T> {
 }
 
 impl<T: DynTagged> DynTagged for Option<T> {
-    ghost dyn_tag = { held_or (record { 0 = 0 }) T.dyn_tag };
+    ghost dyn_tag = { some_or (record { 0 = 0 }) T.dyn_tag };
 
     /// The tag number of the value that is held; 0 where none is.
     fn tag(&self) -> Tag {
@@ -264,7 +264,7 @@ pub fn options_are_read_back_by_ber<'a, T, E>()
 where
     T: LawfulBer<'a, E> + LawfulTagged,
     E: From<Error>,
-    ensures { ReadsHeldBack (OptionGives (IsLeftOut ber_rule (T.TAG).0) T.ber_gives)
+    ensures { ReadsSomeBack (OptionGives (IsLeftOut ber_rule (T.TAG).0) T.ber_gives)
         T.grammar.Form T.grammar.value (TellsMemory T.grammar.allocates E.from_gives) }
 {}
 
@@ -274,7 +274,7 @@ pub fn options_are_read_back_by_der<'a, T, E>()
 where
     T: LawfulDer<'a, E> + LawfulTagged,
     E: From<Error>,
-    ensures { ReadsHeldBack (OptionGives (IsLeftOut der_rule (T.TAG).0) T.der_gives)
+    ensures { ReadsSomeBack (OptionGives (IsLeftOut der_rule (T.TAG).0) T.der_gives)
         T.grammar.Form T.grammar.value (TellsMemory T.grammar.allocates E.from_gives) }
 {}
 
@@ -311,7 +311,8 @@ pub fn options_are_refused_by_ber<'a, T, E>()
 where
     T: LawfulBer<'a, E> + Tagged,
     E: From<Error>,
-    ensures last { RefusesAsHeld (OptionGives (IsLeftOut ber_rule (T.TAG).0) T.ber_gives) T.ber_gives
+    ensures last { RefusesAsSome (OptionGives (IsLeftOut ber_rule (T.TAG).0) T.ber_gives)
+        T.ber_gives
         EndsWithin (ber_words T.grammar) (TellsMemory T.grammar.allocates E.from_gives) }
     ensures stays { TellsHeaderFirst ber_rule ber_violation E.from_gives T.ber_gives →
         StaysIn (IsLeftOut ber_rule (T.TAG).0)
@@ -323,7 +324,8 @@ pub fn options_are_refused_by_der<'a, T, E>()
 where
     T: LawfulDer<'a, E> + Tagged,
     E: From<Error>,
-    ensures last { RefusesAsHeld (OptionGives (IsLeftOut der_rule (T.TAG).0) T.der_gives) T.der_gives
+    ensures last { RefusesAsSome (OptionGives (IsLeftOut der_rule (T.TAG).0) T.der_gives)
+        T.der_gives
         IsTruncatedIdentifier T.grammar.Der (TellsMemory T.grammar.allocates E.from_gives) }
     ensures stays { TellsHeaderFirst der_rule der_violation E.from_gives T.der_gives →
         StaysIn (IsLeftOut der_rule (T.TAG).0)
@@ -333,9 +335,10 @@ where
 /// What an `Option<Any>` is refused with, `Any` refuses the same octets with, and it is final. `None` is read of no
 /// octets that begin with these.
 pub fn optional_elements_are_refused()
-    ensures ber { RefusesAsHeld (OptionGives IsAtEnd (BerGives IsTheElement (λ e f. f ≡ e)))
+    ensures ber { RefusesAsSome (OptionGives IsAtEnd (BerGives IsTheElement (λ e f. f ≡ e)))
         (BerGives IsTheElement (λ e f. f ≡ e)) EndsWithin (IsElement max_depth) (λ r. ⊥) }
-    ensures der { RefusesAsHeld (OptionGives IsAtEnd (DerGives IsDefiniteOr IsTheElement (λ e f. f ≡ e)))
+    ensures der { RefusesAsSome (OptionGives IsAtEnd
+        (DerGives IsDefiniteOr IsTheElement (λ e f. f ≡ e)))
         (DerGives IsDefiniteOr IsTheElement (λ e f. f ≡ e)) IsTruncatedIdentifier IsDerElement (λ r. ⊥) }
     ensures ber_stays { StaysIn IsAtEnd (OptionGives IsAtEnd (BerGives IsTheElement (λ e f. f ≡ e))) }
     ensures der_stays { StaysIn IsAtEnd

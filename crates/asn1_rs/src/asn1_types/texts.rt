@@ -2,7 +2,7 @@
 ghost use Rattle.std.specs.Prelude.{◌≡◌, ◌∷◌, [], string_bytes};
 ghost use Rattle.asn1_rs.specs.Any.{parts_of};
 ghost use Rattle.asn1_rs.specs.Checks.{is_primitive};
-ghost use Rattle.asn1_rs.specs.Leaf.{HaveOneRefusal, LeafGives, LeafTakes};
+ghost use Rattle.asn1_rs.specs.Leaf.{HaveOneRefusal, LeafGives, LeafConverts};
 ghost use Rattle.asn1_rs.specs.LeafReading.{leaf_reading, copying_reading};
 ghost use Rattle.asn1_rs.specs.Laws.Leaf.{copying_exact, leaf_exact, copying_written};
 ghost use Rattle.asn1_rs.specs.Laws.Leaf.{leaf_written};
@@ -47,14 +47,14 @@ impl<'a> Any<'a> {
 
     /// A copy of the text of a `UTF8String`. Refused as [`Any::str`], then where memory is, with `OutOfMemory`.
     pub fn string(self, alloc: Global) -> Result<String, Error>
-        ensures { LeafTakes owned_text_leaf (parts_of self.entry) result }
+        ensures { LeafConverts owned_text_leaf (parts_of self.entry) result }
     {
         self.as_string(alloc)
     }
 
     /// A copy of the text of a `UTF8String`, of an element that stays.
     pub fn as_string(&self, alloc: Global) -> Result<String, Error>
-        ensures { LeafTakes owned_text_leaf (parts_of self.now) result }
+        ensures { LeafConverts owned_text_leaf (parts_of self.now) result }
     {
         let text = self.as_str()?;
         match String::from_str(alloc, text) {

@@ -5,7 +5,7 @@ ghost use Rattle.x690.specs.Identifiers.{Identifier, IsTruncatedIdentifier};
 ghost use Rattle.x690.specs.Elements.{Parts};
 ghost use Rattle.asn1_headers.specs.Answers.{seen, Exactly, TellsMemory, IsOther};
 ghost use Rattle.asn1_headers.specs.Class.{class_number};
-ghost use Rattle.asn1_headers.specs.Error.{HeldIn};
+ghost use Rattle.asn1_headers.specs.Error.{ErrorIs};
 ghost use Rattle.asn1_headers.specs.declared.class.Class.{Class};
 ghost use Rattle.asn1_headers.specs.declared.error.Err.{Err as Refusal};
 ghost use Rattle.asn1_headers.specs.declared.error.Err.TheVariants.{Error as refused};
@@ -14,7 +14,8 @@ ghost use Rattle.asn1_headers.specs.declared.error.Error.TheVariants.{OutOfMemor
 ghost use Rattle.asn1_headers.specs.declared.error.Error.TheVariants as errors;
 ghost use Rattle.asn1_rs.specs.declared.asn1_types.any.Any.{Any};
 ghost use Rattle.asn1_rs.specs.Any.{parts_of};
-ghost use Rattle.asn1_rs.specs.Choices.{ArmsGrammar, no_arms, or_arms, has_tag, has_a_tag, has_a_class, IsNoArm, OrReads};
+ghost use Rattle.asn1_rs.specs.Choices.{ArmsGrammar, no_arms, or_arms, is_of_tag, has_a_tag, has_a_class, IsNoArm};
+ghost use Rattle.asn1_rs.specs.Choices.{OrReads};
 ghost use Rattle.asn1_rs.specs.Choices.{OrGives, OrChecks};
 ghost use Rattle.asn1_rs.specs.Choices.Data.{LawfulArmsOf, end_of_arms, arm_before};
 ghost use Rattle.asn1_rs.specs.Grammar.{TakesBody};
@@ -73,13 +74,13 @@ impl<T: LawfulType, R: Arms, const CLASS: u8> Arms for Or<T, R, CLASS> {
 
 /// Whether the element is of this class and this tag number.
 fn is_of_arm(class: u8, tag: Tag, any: &Any<'_>) -> bool
-    ensures { result ≡ has_tag class tag.0 (parts_of any.now).id }
+    ensures { result ≡ is_of_tag class tag.0 (parts_of any.now).id }
 {
     any.header.class().number() == class && any.header.tag().0 == tag.0
 }
 
 /// The refusal of an element that is of no arm.
-fn no_arm(any: &Any<'_>) -> Error
+pub(crate) fn no_arm(any: &Any<'_>) -> Error
     ensures { result ≡ errors.UnexpectedTag None (record { 0 = (parts_of any.now).id.number }) }
 {
     Error::unexpected_tag(None, any.header.tag())
@@ -139,7 +140,7 @@ pub trait ReadsArms<'a>: Sized {
     /// It is not out of memory where nothing allocates.
     ghost never_oom_arms: { Self.read_arms.allocates ≡ false → (i : Identifier) (input : List ℕ)
         (answer : Result (List ℕ × Self) (Refusal Error)) → Self.arms_give i input answer →
-        IfErr answer (HeldIn (IsOther (λ (e f : Error). f ≡ e))) };
+        IfErr answer (ErrorIs (IsOther (λ (e f : Error). f ≡ e))) };
 
     /// An element that is of no arm is refused.
     ghost other_arms: { (i : Identifier) (input : List ℕ) (answer : Result (List ℕ × Self) (Refusal Error)) →
@@ -176,7 +177,7 @@ where
 {
     ghost read_arms = { or_arms CLASS (T.TAG).0 T.grammar R.read_arms };
 
-    ghost arms_give = { λ i. OrReads (has_tag CLASS (T.TAG).0 i) T.der_gives (R.arms_give i) };
+    ghost arms_give = { λ i. OrReads (is_of_tag CLASS (T.TAG).0 i) T.der_gives (R.arms_give i) };
 
     fn knows_class(class: Class) -> bool {
         class.number() == CLASS || R::knows_class(class)
@@ -201,7 +202,7 @@ where
         T.der_exact R.exact_arms };
 
     ghost never_oom_arms = { λ none. or_reads_never_oom CLASS (T.TAG).0 T.grammar R.read_arms T.der_gives R.arms_give
-        (HeldIn (IsOther (λ (e f : Error). f ≡ e)))
+        (ErrorIs (IsOther (λ (e f : Error). f ≡ e)))
         (T.der_no_memory (or_neither T.grammar.allocates R.read_arms.allocates none).0)
         (R.never_oom_arms (or_neither T.grammar.allocates R.read_arms.allocates none).1) };
 
@@ -291,7 +292,7 @@ where
 {
     ghost take_arms = { or_arms CLASS (T.TAG).0 T.grammar R.take_arms };
 
-    ghost arms_take = { λ any. OrGives (has_tag CLASS (T.TAG).0 (parts_of any).id) (T.any_gives any)
+    ghost arms_take = { λ any. OrGives (is_of_tag CLASS (T.TAG).0 (parts_of any).id) (T.any_gives any)
         (R.arms_take any) };
 
     ghost arms_check = { OrChecks CLASS (T.TAG).0 T.check_gives R.arms_check };

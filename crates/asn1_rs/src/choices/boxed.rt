@@ -2,13 +2,14 @@
 ghost use Rattle.std.specs.Prelude.{◌≡◌, IfOk, IfErr};
 ghost use Rattle.asn1_headers.specs.declared.error.Error.TheVariants as errors;
 ghost use Rattle.asn1_rs.specs.Prelude.{choice_type};
-ghost use Rattle.asn1_rs.specs.Choices.Heap.{boxed, held_in};
+ghost use Rattle.asn1_rs.specs.Choices.Heap.{boxed, inner_of_box};
 
 use crate::asn1_types::any::Any;
 use crate::choices::told::ToldChoice;
 use crate::choices::writing::UsesArm;
 use crate::choices::{ChecksChoice, ChoiceKind, LawfulChoice, ReadsChoiceByBer};
 use crate::kinds::HasKind;
+use crate::kinds::der_form::TellsDerBy;
 use crate::structs::field::LawfulType;
 use crate::traits::DynTagged;
 use asn1_headers::class::Class;
@@ -32,7 +33,7 @@ impl<C> Boxed<C> {
     pub fn new(alloc: Global, value: C) -> Result<Boxed<C>, Error>
     where
         C: Drop,
-        ensures held { IfOk result (λ b. held_in b ≡ value) }
+        ensures held { IfOk result (λ b. inner_of_box b ≡ value) }
         ensures refused { IfErr result (λ e. e ≡ errors.OutOfMemory) }
     {
         match Box::new(alloc, value) {
@@ -43,7 +44,7 @@ impl<C> Boxed<C> {
 
     /// The value.
     pub fn get(&self) -> &C
-        ensures { result.now ≡ held_in self.now }
+        ensures { result.now ≡ inner_of_box self.now }
     {
         self.held.as_ref()
     }
@@ -54,7 +55,7 @@ impl<C> HasKind for Boxed<C> {
 }
 
 impl<C: DynTagged> DynTagged for Boxed<C> {
-    ghost dyn_tag = { λ b. C.dyn_tag (held_in b) };
+    ghost dyn_tag = { λ b. C.dyn_tag (inner_of_box b) };
 
     fn tag(&self) -> Tag {
         self.held.as_ref().tag()
@@ -92,6 +93,13 @@ impl<C: ToldChoice> ToldChoice for Boxed<C> {
 
     fn has_class(class: Class) -> bool {
         C::has_class(class)
+    }
+}
+
+/// Where the value is.
+impl<C: LawfulChoice + TellsDerBy<ChoiceKind>> TellsDerBy<ChoiceKind> for Boxed<C> {
+    fn der_form_by_kind(&self) -> bool {
+        self.get().der_form_by_kind()
     }
 }
 

@@ -20,6 +20,7 @@
 pub(crate) mod arms;
 pub(crate) mod boxed;
 pub(crate) mod checks;
+pub(crate) mod in_hand;
 pub(crate) mod nested;
 pub(crate) mod taken;
 pub(crate) mod taken_arm;

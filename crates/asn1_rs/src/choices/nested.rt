@@ -1,7 +1,7 @@
 //! A choice, or the other arms behind it.
 ghost use Rattle.std.specs.Prelude.{◌≡◌, ◌≢◌, ◌++◌, ℕ, List, Err};
 ghost use Rattle.asn1_headers.specs.Answers.{IsOther};
-ghost use Rattle.asn1_rs.specs.Prelude.{ChecksOf, Error, has_a_tag, HeldIn, OutOfMemory, parts_of};
+ghost use Rattle.asn1_rs.specs.Prelude.{ChecksOf, Error, has_a_tag, ErrorIs, OutOfMemory, parts_of};
 ghost use Rattle.asn1_rs.specs.Choices.Data.{ReadsChoiceAlso, TakesChoiceAlso, grammar_of_choice};
 ghost use Rattle.asn1_rs.specs.Laws.Choices.Readers.{choice_checks};
 ghost use Rattle.asn1_rs.specs.Laws.Structs.Rows.{or_neither};
@@ -79,7 +79,7 @@ where
 
     ghost never_oom_arms = { λ none. reads_never_oom C.laws.arms.grammar.tags (grammar_of_choice C.laws) R.read_arms
         (ReadsChoiceAlso C.laws C.choice_gives) R.arms_give
-        (HeldIn (IsOther (λ (e f : Error). f ≡ e)))
+        (ErrorIs (IsOther (λ (e f : Error). f ≡ e)))
         (λ input answer g. g.0.no_memory (or_neither C.laws.arms.grammar.allocates R.read_arms.allocates none).0)
         (R.never_oom_arms (or_neither C.laws.arms.grammar.allocates R.read_arms.allocates none).1) };
 

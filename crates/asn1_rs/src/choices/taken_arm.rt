@@ -4,7 +4,7 @@ ghost use Rattle.asn1_rs.specs.Prelude.{class_number, Error, has_a_class, is_one
 ghost use Rattle.x690.specs.Elements.{Parts};
 ghost use Rattle.asn1_headers.specs.Answers.{IsOther};
 ghost use Rattle.asn1_rs.specs.declared.asn1_types.any.Any.{Any};
-ghost use Rattle.asn1_rs.specs.Choices.{has_tag, or_arms, OrChecks, OrGives};
+ghost use Rattle.asn1_rs.specs.Choices.{is_of_tag, or_arms, OrChecks, OrGives};
 ghost use Rattle.asn1_rs.specs.Grammar.{TakesBody};
 ghost use Rattle.asn1_rs.specs.Grammar.Item.{ItemGrammar, IsLawfulItem};
 ghost use Rattle.asn1_rs.specs.Kinds.{IsExactCheck};
@@ -81,7 +81,7 @@ where
     ghost take_arms = { within (λ x. x.arms) (or_arms CLASS TAG T.item R.take_arms) };
 
     ghost arms_take = { λ any. GivesWithin (λ x. x.arms)
-        (OrGives (has_tag CLASS TAG (parts_of any).id) (T.takes any) (R.arms_take any)) };
+        (OrGives (is_of_tag CLASS TAG (parts_of any).id) (T.takes any) (R.arms_take any)) };
 
     ghost arms_check = { OrChecks CLASS TAG T.check_may R.arms_check };
 
@@ -119,7 +119,7 @@ where
         (or_tagged CLASS TAG T.item R.take_arms T.lawful R.tagged_arms) };
 
     ghost exact_take = { takes_within (λ x. x.arms) (or_arms CLASS TAG T.item R.take_arms)
-        (λ any. OrGives (has_tag CLASS TAG (parts_of any).id) (T.takes any) (R.arms_take any))
+        (λ any. OrGives (is_of_tag CLASS TAG (parts_of any).id) (T.takes any) (R.arms_take any))
         (or_takes CLASS TAG T.item R.take_arms T.takes R.arms_take T.exact R.exact_take) };
 
     ghost never_oom_take = { λ none. or_takes_never_oom CLASS TAG T.item R.take_arms T.takes R.arms_take
@@ -129,7 +129,7 @@ where
         (R.never_oom_take (or_neither T.item.allocates R.take_arms.allocates none).1) };
 
     ghost other_take = { other_within (λ x. x.arms) (or_arms CLASS TAG T.item R.take_arms)
-        (λ any. OrGives (has_tag CLASS TAG (parts_of any).id) (T.takes any) (R.arms_take any))
+        (λ any. OrGives (is_of_tag CLASS TAG (parts_of any).id) (T.takes any) (R.arms_take any))
         (or_takes_other CLASS TAG T.item R.take_arms T.takes R.arms_take R.other_take) };
 
     ghost exact_check = { or_checks CLASS TAG T.item R.take_arms T.check_may R.arms_check T.checks

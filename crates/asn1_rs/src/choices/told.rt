@@ -1,7 +1,7 @@
 //! Arms and choices that tell by an element whether it is one of theirs.
 ghost use Rattle.std.specs.Prelude.{◌≡◌, ◌∷◌, [], ◌++◌, ℕ, List};
 ghost use Rattle.asn1_rs.specs.Prelude.{class_number, has_a_class, has_a_tag, parts_of};
-ghost use Rattle.asn1_rs.specs.Choices.{has_tag};
+ghost use Rattle.asn1_rs.specs.Choices.{is_of_tag};
 
 use crate::asn1_types::any::Any;
 use crate::choices::LawfulChoice;
@@ -60,7 +60,7 @@ impl TellsArms for Never {
 
 /// Whether the element is of this class and this tag number.
 pub(crate) fn is_of_arm(class: u8, tag: Tag, any: &Any<'_>) -> bool
-    ensures { result ≡ has_tag class tag.0 (parts_of any.now).id }
+    ensures { result ≡ is_of_tag class tag.0 (parts_of any.now).id }
 {
     any.header.class().number() == class && any.header.tag().0 == tag.0
 }

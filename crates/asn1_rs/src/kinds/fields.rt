@@ -1,6 +1,6 @@
 //! What takes the fields of a struct, one after another: it counts them, or puts them before what a buffer holds.
 ghost use Rattle.std.specs.Prelude.{◌≡◌, ℕ, List};
-ghost use Rattle.asn1_rs.specs.Fields.{TakenFields, counted, prepended, taken_in, standing, goes_back, PutsField};
+ghost use Rattle.asn1_rs.specs.Fields.{TakenFields, counted, prepended, taken_in, collected, goes_back, PutsField};
 
 use crate::header::add_counts;
 use crate::to_der::ToDer;
@@ -78,7 +78,7 @@ impl Fields {
 
     /// The octets that stand there; none where they were counted.
     pub(crate) fn as_bytes(&self) -> &[u8]
-        ensures { result.now ≡ standing (taken_in self.now) }
+        ensures { result.now ≡ collected (taken_in self.now) }
     {
         match &self.taken {
             Taken::Counted(_) => &[],

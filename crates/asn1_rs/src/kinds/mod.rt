@@ -10,6 +10,8 @@
 
 pub(crate) mod assert_valid;
 pub(crate) mod collections;
+pub(crate) mod decoding;
+pub(crate) mod der_form;
 pub(crate) mod fields;
 pub(crate) mod leaf;
 pub(crate) mod reading;
@@ -17,9 +19,9 @@ pub(crate) mod writing;
 
 ghost use Rattle.std.specs.Prelude.{◌≡◌};
 ghost use Rattle.asn1_headers.specs.declared.tag.Tag.{Tag};
-ghost use Rattle.asn1_rs.specs.Grammar.Item.{ItemGrammar, IsLawfulItem, by_held};
+ghost use Rattle.asn1_rs.specs.Grammar.Item.{ItemGrammar, IsLawfulItem, by_inner};
 ghost use Rattle.asn1_rs.specs.Kinds.{ElementGrammar, IsLawfulElement, IsExactCheck, IsExactConversion, item_grammar};
-ghost use Rattle.asn1_rs.specs.Laws.Kinds.{lawful_item, lawful_by_held};
+ghost use Rattle.asn1_rs.specs.Laws.Kinds.{lawful_item, lawful_by_inner};
 
 use crate::laws::{Grammar, LawfulAuto, LawfulItem, LawfulMember};
 use crate::traits::{CheckDerConstraints, DerAutoDerive, FromAny, Tagged};
@@ -175,11 +177,11 @@ impl<T: LawfulElement> LawfulItemBy<ElementKind> for T {
 
 /// What holds an item has its values and grammars.
 impl<H: Holds<Held = T>, T: Grammar> GrammarBy<HolderKind> for H {
-    ghost grammar_by_kind = { by_held H.held T.grammar };
+    ghost grammar_by_kind = { by_inner H.held T.grammar };
 }
 
 impl<H: Holds<Held = T>, T: LawfulItem> LawfulItemBy<HolderKind> for H {
-    ghost lawful_by_kind = { lawful_by_held H.held T.grammar T.lawful_item };
+    ghost lawful_by_kind = { lawful_by_inner H.held T.grammar T.lawful_item };
 
     fn value_by_kind(&self) {
         self.held().has_value();

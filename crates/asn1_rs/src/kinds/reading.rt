@@ -12,7 +12,7 @@ ghost use Rattle.x690.specs.Faults.{DerElementFault};
 ghost use Rattle.asn1_headers.specs.declared.error.Err.{Err as Refusal};
 ghost use Rattle.asn1_headers.specs.declared.error.Error.{Error};
 ghost use Rattle.asn1_headers.specs.Answers.{seen, Exactly, TellsMemory, IsOther};
-ghost use Rattle.asn1_headers.specs.Error.{HeldIn};
+ghost use Rattle.asn1_headers.specs.Error.{ErrorIs};
 ghost use Rattle.asn1_headers.specs.Header.Reading.{der_violation};
 ghost use Rattle.asn1_rs.specs.declared.asn1_types.any.Any.{Any};
 ghost use Rattle.asn1_rs.specs.Any.{parts_of};
@@ -221,7 +221,7 @@ pub trait LawfulDerBy<'a, R, E: From<Error>>: FromDer<'a, E> + LawfulItem {
     /// `der_no_memory`.
     ghost no_memory_by_reader: { Self.grammar.allocates ≡ false →
         (input : List ℕ) (answer : Result (List ℕ × Self) (Refusal E)) →
-        Self.der_gives input answer → IfErr answer (HeldIn (IsOther E.from_gives)) };
+        Self.der_gives input answer → IfErr answer (ErrorIs (IsOther E.from_gives)) };
 }
 
 impl<'a, T: HasReader + LawfulDerBy<'a, T::Reader, E>, E: From<Error>> LawfulDer<'a, E> for T {

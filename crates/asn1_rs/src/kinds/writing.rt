@@ -7,7 +7,7 @@ ghost use Rattle.asn1_headers.specs.Prepended.{Prepended};
 ghost use Rattle.asn1_rs.specs.Grammar.{FormNumber, FormTakes};
 ghost use Rattle.asn1_headers.specs.Writer.{Wrote, MayRefuse};
 ghost use Rattle.asn1_rs.specs.ToDer.{Writing, MayRefuseCount, Refuses, RefusesCount, IsRefusedAtOnce, RefusedAtOnce};
-ghost use Rattle.asn1_rs.specs.ToDer.{KeepsOrMayRefuse, VectorRefuses, held_writing, whole_allocates, whole_octets};
+ghost use Rattle.asn1_rs.specs.ToDer.{KeepsOrMayRefuse, VectorRefuses, inner_writing, whole_allocates, whole_octets};
 ghost use Rattle.asn1_rs.specs.ToDer.{whole_refuses};
 ghost use Rattle.asn1_headers.specs.declared.error.SerializeError.{SerializeError};
 ghost use Rattle.asn1_headers.specs.declared.error.Error.{Error};
@@ -16,7 +16,7 @@ ghost use Rattle.asn1_rs.specs.Kinds.Writing.{piece_octets, OwnPutRefused, Prepe
 ghost use Rattle.asn1_rs.specs.Kinds.Writing.{IsWrittenElement};
 ghost use Rattle.asn1_rs.specs.Laws.Forms.{universal_number, universal_number_fits, universal_lawful_writing};
 ghost use Rattle.asn1_rs.specs.Grammar.Item.{IsLawfulWriting};
-ghost use Rattle.asn1_rs.specs.Laws.Writing.{held_lawful_writing};
+ghost use Rattle.asn1_rs.specs.Laws.Writing.{inner_lawful_writing};
 
 use crate::header::{count_that_fits, element_len, put_counted_header};
 use crate::kinds::{ElementKind, HasKind, HolderKind, Holds, LawfulElement};
@@ -342,7 +342,7 @@ impl<T: WritesElement> ToDerBy<ElementKind> for T {
 // A reference has its tag number by its type alone, so the item is asked for `Tagged`. A reference to an `Any` or a
 // `Header` is not written; the value itself is.
 impl<H: Holds<Held = T>, T: ToDer + Tagged> ToDerBy<HolderKind> for H {
-    ghost writing = { held_writing H.held T.writing };
+    ghost writing = { inner_writing H.held T.writing };
 
     fn element_count(&self) -> Result<usize, Error> {
         T::to_der_len(self.held())
@@ -431,7 +431,7 @@ impl<T: WritesElement> LawfulWriteBy<ElementKind> for T {
 }
 
 impl<H: Holds<Held = T>, T: LawfulWrite + Tagged> LawfulWriteBy<HolderKind> for H {
-    ghost lawful_writing_by_kind = { held_lawful_writing H.held T.grammar T.writing
+    ghost lawful_writing_by_kind = { inner_lawful_writing H.held T.grammar T.writing
         T.lawful_writing };
 }
 

@@ -6,10 +6,10 @@ ghost use Rattle.x690.specs.Rules.{der_rule, ber_rule};
 ghost use Rattle.asn1_headers.specs.Ber.{max_depth};
 ghost use Rattle.asn1_headers.specs.Header.Reading.{ber_violation, der_violation};
 ghost use Rattle.asn1_rs.specs.Faults.{TellsHeaderFirst, TruncationsAreCounted, TruncationsAreCountedOrWithin};
-ghost use Rattle.asn1_rs.specs.Lists.{ListTakes};
+ghost use Rattle.asn1_rs.specs.Lists.{ListConverts};
 ghost use Rattle.asn1_rs.specs.Tagged.{ThenByBer, ThenByDer};
 ghost use Rattle.asn1_rs.specs.Tagged.Explicit.{ExplicitGives};
-ghost use Rattle.asn1_rs.specs.Tagged.Parser.{TakesExplicit, TakesWhole, TakesImplicit, ChecksAndConverts};
+ghost use Rattle.asn1_rs.specs.Tagged.Parser.{TakesExplicit, TakesWholeContent, TakesImplicit, ChecksAndConverts};
 ghost use Rattle.asn1_rs.specs.Traits.{BerGives, DerGives, OfParts, PassesAll};
 ghost use Rattle.asn1_rs.specs.declared.asn1_types.tagged.TaggedValue.{TaggedValue};
 
@@ -52,10 +52,10 @@ where
     F: EncodingForm,
     E: From<Error>,
     ensures header { TellsHeaderFirst der_rule der_violation E.from_gives (DerGives PassesAll
-        (OfParts (ListTakes (F.form_gives (L.TAG).0) L.holds T.der_gives E.from_gives))
+        (OfParts (ListConverts (F.form_gives (L.TAG).0) L.holds T.der_gives E.from_gives))
         E.from_gives) }
     ensures truncated { TruncationsAreCounted DerElementFault (DerGives PassesAll
-        (OfParts (ListTakes (F.form_gives (L.TAG).0) L.holds T.der_gives E.from_gives))
+        (OfParts (ListConverts (F.form_gives (L.TAG).0) L.holds T.der_gives E.from_gives))
         E.from_gives) }
 {}
 
@@ -80,7 +80,7 @@ where
     ensures ber { TruncationsAreCountedOrWithin (ElementFault max_depth) (IsElement max_depth) T.ber_gives
         (ThenByBer E.from_gives (TakesExplicit {K = K} T.ber_gives)) }
     ensures der { TruncationsAreCountedOrWithin DerElementFault IsDerElement T.der_gives
-        (ThenByDer E.from_gives (TakesWhole {K = K} T.der_gives E.from_gives)) }
+        (ThenByDer E.from_gives (TakesWholeContent {K = K} T.der_gives E.from_gives)) }
 {}
 
 /// That of a `TaggedParser` of an implicit tag tells what the element lacks.

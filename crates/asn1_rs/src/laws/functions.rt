@@ -16,7 +16,7 @@ ghost use Rattle.asn1_headers.specs.declared.error.Error.{Error};
 ghost use Rattle.asn1_headers.specs.declared.error.Error.TheVariants.{OutOfMemory};
 ghost use Rattle.asn1_headers.specs.declared.header.Header.{Header};
 ghost use Rattle.asn1_rs.specs.declared.asn1_types.any.Any.{Any};
-ghost use Rattle.asn1_headers.specs.Error.{HeldIn};
+ghost use Rattle.asn1_headers.specs.Error.{ErrorIs};
 ghost use Rattle.asn1_headers.specs.Answers.{Exactly, TellsMemory, IsOther, ReadsBack, RefusedAsBeginning};
 ghost use Rattle.asn1_headers.specs.Answers.{RefusedBeforeEnd};
 ghost use Rattle.asn1_rs.specs.Grammar.{Checks, FormBodies, FormChecks, FormNumber, FormTakes, TakesBody};
@@ -65,7 +65,7 @@ pub fn reader_is_exact_by_ber<'a, T: LawfulBer<'a, E>, E: From<Error>>()
         (EndsWithin input) more answer }
     ensures asks_no_memory { (input : List ℕ) (answer : Result (List ℕ × T) (Refusal E)) →
         T.grammar.allocates ≡ false → T.ber_gives input answer →
-        IfErr answer (HeldIn (IsOther E.from_gives)) }
+        IfErr answer (ErrorIs (IsOther E.from_gives)) }
 {}
 
 /// The reader by DER of a lawful type is exact: what `T::from_der` may answer, `T.der_gives`, is what
@@ -86,7 +86,7 @@ pub fn reader_is_exact_by_der<'a, T: LawfulDer<'a, E>, E: From<Error>>()
         (IsTruncatedIdentifier input) more answer }
     ensures asks_no_memory { (input : List ℕ) (answer : Result (List ℕ × T) (Refusal E)) →
         T.grammar.allocates ≡ false → T.der_gives input answer →
-        IfErr answer (HeldIn (IsOther E.from_gives)) }
+        IfErr answer (ErrorIs (IsOther E.from_gives)) }
 {}
 
 /// The conversion of a lawful type is exact. What `T::try_from_any` may answer to an element is its value, where the

@@ -5,6 +5,7 @@
 //! [`write_strict`], alone or nested in lists, sets and tags.
 
 pub(crate) mod assert_valid;
+pub(crate) mod der_form;
 pub(crate) mod faults;
 pub(crate) mod functions;
 
@@ -31,7 +32,7 @@ ghost use Rattle.asn1_rs.specs.Grammar.{NoCheck, DerWord, TakesBody, FormTakes, 
 ghost use Rattle.asn1_rs.specs.Traits.{PassesAll, BerGives, DerGives};
 ghost use Rattle.asn1_rs.specs.Grammar.Item.{ItemGrammar, IsLawfulItem, IsLawfulWriting, ber_words};
 ghost use Rattle.asn1_rs.specs.Kinds.{IsExactCheck};
-ghost use Rattle.asn1_headers.specs.Error.{HeldIn};
+ghost use Rattle.asn1_headers.specs.Error.{ErrorIs};
 ghost use Rattle.asn1_headers.specs.Writer.{Wrote, MayRefuse, IsMemoryOrLength};
 ghost use Rattle.asn1_headers.specs.declared.header.Header.{Header};
 ghost use Rattle.asn1_rs.specs.declared.asn1_types.any.Any.{Any};
@@ -74,6 +75,7 @@ pub use crate::asn1_types::times::{
 pub use crate::laws::assert_valid::{
     AlwaysDer, assert_members_valid, assert_octets_valid, assert_text_valid,
 };
+pub use crate::laws::der_form::TellsDer;
 pub use crate::laws::faults::{
     faults_come_first_by_ber, faults_come_first_by_der, faults_of_lists_come_first,
     faults_of_tags_come_first, truncations_of_explicit_parsers_are_counted,
@@ -156,7 +158,7 @@ pub trait LawfulBer<'a, E: From<Error>>: FromBer<'a, E> + LawfulItem {
     /// Where the type does not allocate, no refusal reports out of memory.
     ghost ber_no_memory: { Self.grammar.allocates ≡ false →
         (input : List ℕ) (answer : Result (List ℕ × Self) (Refusal E)) →
-        Self.ber_gives input answer → IfErr answer (HeldIn (IsOther E.from_gives)) };
+        Self.ber_gives input answer → IfErr answer (ErrorIs (IsOther E.from_gives)) };
 }
 
 /// The reader by DER is exact: Ok where a word by DER begins the input, and a final refusal else.
@@ -170,7 +172,7 @@ pub trait LawfulDer<'a, E: From<Error>>: FromDer<'a, E> + LawfulItem {
     /// Where the type does not allocate, no refusal reports out of memory.
     ghost der_no_memory: { Self.grammar.allocates ≡ false →
         (input : List ℕ) (answer : Result (List ℕ × Self) (Refusal E)) →
-        Self.der_gives input answer → IfErr answer (HeldIn (IsOther E.from_gives)) };
+        Self.der_gives input answer → IfErr answer (ErrorIs (IsOther E.from_gives)) };
 }
 
 /// What is written follows from the value, and is its strict encoding where it has one.
@@ -240,7 +242,7 @@ pub fn read_ber<'a, T: LawfulBer<'a, E>, E: From<Error>>(
         input.now ≡ w ++ rest → ReadsBack T.grammar.value
         (TellsMemory T.grammar.allocates E.from_gives) v rest (seen result) }
     ensures asks_no_memory { T.grammar.allocates ≡ false →
-        IfErr (seen result) (HeldIn (IsOther E.from_gives)) }
+        IfErr (seen result) (ErrorIs (IsOther E.from_gives)) }
     ensures gives { T.ber_gives input.now (seen result) }
 {
     T::from_ber(alloc, input)
@@ -262,7 +264,7 @@ pub fn read_der<'a, T: LawfulDer<'a, E>, E: From<Error>>(
         bytes.now ≡ w ++ rest → ReadsBack T.grammar.value
         (TellsMemory T.grammar.allocates E.from_gives) v rest (seen result) }
     ensures asks_no_memory { T.grammar.allocates ≡ false →
-        IfErr (seen result) (HeldIn (IsOther E.from_gives)) }
+        IfErr (seen result) (ErrorIs (IsOther E.from_gives)) }
     ensures gives { T.der_gives bytes.now (seen result) }
 {
     T::from_der(alloc, bytes)

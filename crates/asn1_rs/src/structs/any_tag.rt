@@ -7,7 +7,7 @@ ghost use Rattle.asn1_headers.specs.Answers.{seen};
 ghost use Rattle.asn1_headers.specs.Header.{identifier_of};
 ghost use Rattle.asn1_rs.specs.Laws.Structs.Fields.{any_field_lawful, any_option_lawful};
 ghost use Rattle.asn1_rs.specs.Laws.Tagged.Headed.{explicit_headed_lawful, implicit_headed_lawful};
-ghost use Rattle.asn1_rs.specs.Optional.{IfHeld, IsAtEnd, OptionGives, option_writing};
+ghost use Rattle.asn1_rs.specs.Optional.{InSome, IsAtEnd, OptionGives, option_writing};
 ghost use Rattle.asn1_rs.specs.Structs.{any_number, item_field, left_out_at_end, optional_field};
 
 use crate::asn1_types::option::held;
@@ -26,7 +26,7 @@ use std::alloc::Global;
 /// The value at the front of the octets by DER, or none where there are no octets.
 // Called at a `TaggedParser`, whose lifetime the borrow checker asks of its value too. So the impls of options have the
 // bound `'a`.
-fn or_none_by_der<'a, T: FromDer<'a, Error>>(
+pub(crate) fn or_none_by_der<'a, T: FromDer<'a, Error>>(
     alloc: Global,
     octets: &'a [u8],
 ) -> ParseResult<'a, Option<T>, Error>
@@ -39,7 +39,7 @@ fn or_none_by_der<'a, T: FromDer<'a, Error>>(
 }
 
 /// The same by BER.
-fn or_none_by_ber<'a, T: FromBer<'a, Error>>(
+pub(crate) fn or_none_by_ber<'a, T: FromBer<'a, Error>>(
     alloc: Global,
     octets: &'a [u8],
 ) -> ParseResult<'a, Option<T>, Error>
@@ -228,7 +228,7 @@ where
 {
     ghost field_writing = { option_writing ⟦<TaggedParser<'a, Kind, T, Error> as ToDer>⟧.writing };
 
-    ghost has_a_value = { IfHeld (λ x. ⟦<TaggedParser<'a, Kind, T, Error> as Grammar>⟧.grammar.IsValue
+    ghost has_a_value = { InSome (λ x. ⟦<TaggedParser<'a, Kind, T, Error> as Grammar>⟧.grammar.IsValue
         (⟦<TaggedParser<'a, Kind, T, Error> as Grammar>⟧.grammar.value x)) };
 
     #[inline(always)]

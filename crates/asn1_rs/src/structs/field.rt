@@ -11,7 +11,7 @@ ghost use Rattle.asn1_rs.specs.Any.Value.{any_element};
 ghost use Rattle.asn1_rs.specs.Kinds.{item_grammar};
 ghost use Rattle.asn1_rs.specs.Laws.Any.Value.{element_lawful};
 ghost use Rattle.asn1_rs.specs.Laws.Kinds.{lawful_item};
-ghost use Rattle.asn1_rs.specs.Optional.{IfHeld, IsAtEnd, OptionGives, option_writing};
+ghost use Rattle.asn1_rs.specs.Optional.{InSome, IsAtEnd, OptionGives, option_writing};
 ghost use Rattle.asn1_rs.specs.ToDer.{Writing};
 ghost use Rattle.asn1_rs.specs.Laws.Structs.Fields.{IsLawfulField, item_field_lawful, optional_field_lawful, any_field_lawful, any_option_lawful};
 ghost use Rattle.asn1_rs.specs.Structs.{FieldGrammar, item_field, optional_field, any_number, left_out_among, left_out_at_end, by_der, by_ber};
@@ -229,10 +229,10 @@ impl<T: WritesType> WritesField for T {
 impl<T: WritesType> WritesField for Option<T> {
     ghost field_writing = { option_writing T.type_writing };
 
-    ghost has_a_value = { IfHeld T.has_its_value };
+    ghost has_a_value = { InSome T.has_its_value };
 
     #[inline(always)]
-    #[tactic(auto, using(crate::specs::Laws::Structs::Puts::held_put, crate::specs::Laws::Structs::Puts::nothing_put))]
+    #[tactic(auto, using(crate::specs::Laws::Structs::Puts::put_some, crate::specs::Laws::Structs::Puts::nothing_put))]
     fn put_field(&self, fields: &mut Fields) -> SerializeResult<()> {
         match self {
             Some(x) => x.put_type(fields),
@@ -265,7 +265,7 @@ impl<'a> WritesField for Any<'a> {
 impl<'a> WritesField for Option<Any<'a>> {
     ghost field_writing = { ⟦<Option<Any<'a>> as ToDer>⟧.writing };
 
-    ghost has_a_value = { IfHeld (λ x. any_element.IsValue (any_element.value x)) };
+    ghost has_a_value = { InSome (λ x. any_element.IsValue (any_element.value x)) };
 
     #[inline(always)]
     fn put_field(&self, fields: &mut Fields) -> SerializeResult<()> {
@@ -298,7 +298,7 @@ impl<T: LawfulType + AlwaysDer> FieldIsDer for T {
 }
 
 impl<T: LawfulType + AlwaysDer> FieldIsDer for Option<T> {
-    ghost is_in_der = { IfHeld (λ x. T.grammar.IsDer (T.grammar.value x)) };
+    ghost is_in_der = { InSome (λ x. T.grammar.IsDer (T.grammar.value x)) };
 
     fn field_is_der(&self) {
         if let Some(x) = self {
@@ -316,7 +316,7 @@ impl FieldIsDer for Any<'_> {
 }
 
 impl FieldIsDer for Option<Any<'_>> {
-    ghost is_in_der = { IfHeld (λ x. any_element.IsDer (any_element.value x)) };
+    ghost is_in_der = { InSome (λ x. any_element.IsDer (any_element.value x)) };
 
     fn field_is_der(&self) {
         if let Some(x) = self {

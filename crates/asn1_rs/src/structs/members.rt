@@ -1,11 +1,13 @@
 //! Structs as members of sets: where equality of each field is that of its values, equality of the struct is.
 //!
 //! The law stands in a record of each type, so that a row of fields can name it.
+ghost use Rattle.asn1_rs.specs.Laws.Any.Kept.{kept_elements_same};
 ghost use Rattle.asn1_rs.specs.Laws.Any.Writing.{element_same};
 ghost use Rattle.asn1_rs.specs.Structs.Members.{MembersOf, RowOfMembers, members_of, marked_members, optional_members};
 ghost use Rattle.asn1_rs.specs.Structs.Members.{headed_members, no_members, then_members};
 
 use crate::asn1_types::any::Any;
+use crate::asn1_types::any::kept::KeptAny;
 use crate::asn1_types::tagged::parser::TaggedParser;
 use crate::structs::defaulted::Defaulted;
 use crate::structs::keys::KeyType;
@@ -45,6 +47,10 @@ impl<T: MemberType, D> MemberType for Defaulted<T, D> {
 
 impl MemberType for Any<'_> {
     ghost member_laws = { members_of element_same };
+}
+
+impl MemberType for KeptAny<'_> {
+    ghost member_laws = { members_of kept_elements_same };
 }
 
 impl<Kind, T: MemberType, E> MemberType for TaggedParser<'_, Kind, T, E> {

@@ -13,8 +13,10 @@
 
 pub(crate) mod any_tag;
 pub(crate) mod defaulted;
+pub(crate) mod der_form;
 pub(crate) mod field;
 pub(crate) mod flat;
+pub(crate) mod kept_any;
 pub(crate) mod keys;
 pub(crate) mod leaves_by_ber;
 pub(crate) mod leaves_by_der;
@@ -30,8 +32,12 @@ pub(crate) mod writing;
 ghost use Rattle.std.specs.Prelude.{◌≡◌, ℕ, List, Result};
 ghost use Rattle.asn1_headers.specs.declared.error.Error.{Error};
 ghost use Rattle.std.proofs.Common.{lit<};
+ghost use Rattle.x690.specs.Elements.{IsDerElement};
+ghost use Rattle.x690.specs.Faults.{DerElementFault};
 ghost use Rattle.asn1_headers.specs.Answers.{seen};
+ghost use Rattle.asn1_headers.specs.Header.Reading.{der_refusal};
 ghost use Rattle.asn1_rs.specs.Any.{parts_of};
+ghost use Rattle.asn1_rs.specs.Laws.Any.Decoded.{converted_reads};
 ghost use Rattle.asn1_rs.specs.Fields.{taken_in};
 ghost use Rattle.asn1_rs.specs.Laws.Lists.{constructed_checks};
 ghost use Rattle.asn1_rs.specs.Laws.Structs.Readers.{struct_exact, struct_never_oom, struct_by_der_exact, struct_by_der_never_oom};
@@ -44,6 +50,7 @@ ghost use Rattle.asn1_rs.specs.Traits.{DerGives, PassesAll};
 
 use crate::asn1_types::any::Any;
 use crate::der::element_by_der;
+use crate::kinds::decoding::DecodesBy;
 use crate::kinds::fields::{Fields, FieldsKind};
 use crate::kinds::reading::{
     CheckBy, ConstructedForm, EncodingForm, FromAnyBy, FromDerBy, HasReader, LawfulBodyBy,
@@ -211,6 +218,21 @@ impl<'a, T: ReadsFields<'a>> FromDerBy<'a, StructReader, Error> for T {
             Err(e) => Err(Err::Error(e)),
         }
     }
+}
+
+/// The same of an element in hand.
+impl<'a, T> DecodesBy<'a, StructReader> for T
+where
+    T: ReadsFields<'a> + HasReader<Reader = StructReader>,
+{
+    ghost decode_gives = { StructGives (AnswersAlso by_der T.laws T.fields_give) };
+
+    fn decode_element(alloc: Global, any: Any<'a>) -> Result<T, Error> {
+        struct_of_element::<T>(alloc, &any)
+    }
+
+    ghost decodes = { converted_reads IsDerElement DerElementFault der_refusal
+        (StructGives (AnswersAlso by_der T.laws T.fields_give)) };
 }
 
 /// Refuses an element that is no sequence, by its tag number and then by its constructed bit.

@@ -31,10 +31,11 @@ ghost use Rattle.asn1_rs.specs.Structs.Types.{numeric_type, printable_type, asci
 ghost use Rattle.asn1_rs.specs.Structs.Types.{generalized_time_type, oid_type, list_over, multiset_over, explicit_over};
 ghost use Rattle.asn1_rs.specs.Structs.Types.{implicit_type, bmp_type, universal_type};
 ghost use Rattle.asn1_rs.specs.Structs.AnyTag.{any_type, explicit_parser_type, implicit_parser_type, any_tag_field};
-ghost use Rattle.asn1_rs.specs.Structs.AnyTag.{optional_any_tag_field};
+ghost use Rattle.asn1_rs.specs.Structs.AnyTag.{kept_any_type, optional_any_tag_field};
 ghost use Rattle.asn1_headers.specs.Header.{identifier_of};
 
 use crate::asn1_types::any::Any;
+use crate::asn1_types::any::kept::KeptAny;
 use crate::asn1_types::bit_string::BitString;
 use crate::asn1_types::boolean::Boolean;
 use crate::asn1_types::enumerated::Enumerated;
@@ -239,6 +240,10 @@ impl ItemType for Any<'_> {
     ghost item_laws = { any_type };
 }
 
+impl ItemType for KeptAny<'_> {
+    ghost item_laws = { kept_any_type };
+}
+
 impl<T: ItemType> ItemType for TaggedParser<'_, Explicit, T, Error> {
     ghost item_laws = { explicit_parser_type (λ t. identifier_of t.header) (λ t. t.inner)
         T.item_laws };
@@ -255,6 +260,14 @@ impl FieldType for Any<'_> {
 
 impl FieldType for Option<Any<'_>> {
     ghost field_laws = { optional_any_tag_field any_type };
+}
+
+impl FieldType for KeptAny<'_> {
+    ghost field_laws = { any_tag_field kept_any_type };
+}
+
+impl FieldType for Option<KeptAny<'_>> {
+    ghost field_laws = { optional_any_tag_field kept_any_type };
 }
 
 impl<T: ItemType> FieldType for TaggedParser<'_, Explicit, T, Error> {

@@ -7,7 +7,8 @@ ghost use Rattle.asn1_headers.specs.declared.error.SerializeError.{SerializeErro
 ghost use Rattle.asn1_headers.specs.declared.error.Error.{Error};
 ghost use Rattle.asn1_headers.specs.Prepended.{Prepended};
 ghost use Rattle.asn1_headers.specs.Writer.{Wrote, MayRefuse};
-ghost use Rattle.asn1_rs.specs.Fields.{TellsFields, FieldsRefuse, FieldsRefuseCount, taken_in, standing, fields_octets};
+ghost use Rattle.asn1_rs.specs.Fields.{SpecifiesFields, FieldsRefuse, FieldsRefuseCount, taken_in, collected};
+ghost use Rattle.asn1_rs.specs.Fields.{fields_octets};
 ghost use Rattle.asn1_rs.specs.Structs.Data.{fields_of_struct, writing_of_struct};
 ghost use Rattle.asn1_rs.specs.ToDer.{RefusesCount, VectorRefuses};
 
@@ -38,13 +39,13 @@ fn refusal_in_counting(tag: Tag, e: SerializeError) -> Error
 
 /// How many octets the fields of a value have.
 fn count_fields<T: LawfulStruct>(value: &T) -> Result<usize, Error>
-    ensures count { TellsFields (fields_of_struct T.laws) value.now →
+    ensures count { SpecifiesFields (fields_of_struct T.laws) value.now →
         IfOk result (λ n. n ≡ length (fields_octets (fields_of_struct T.laws) value.now)) }
-    ensures refused { TellsFields (fields_of_struct T.laws) value.now →
+    ensures refused { SpecifiesFields (fields_of_struct T.laws) value.now →
         IfErr result
         (RefusesCount true (length (fields_octets (fields_of_struct T.laws) value.now))
         (FieldsRefuseCount (fields_of_struct T.laws) value.now)) }
-    ensures accepted { (e : Error) → TellsFields (fields_of_struct T.laws) value.now →
+    ensures accepted { (e : Error) → SpecifiesFields (fields_of_struct T.laws) value.now →
         FieldsRefuseCount (fields_of_struct T.laws) value.now e → IsErr result }
 {
     let mut fields = Fields::counted();
@@ -56,14 +57,14 @@ fn count_fields<T: LawfulStruct>(value: &T) -> Result<usize, Error>
 
 /// The encodings of the fields of a value, one after another, in a buffer.
 fn take_fields<T: LawfulStruct>(value: &T, alloc: Global) -> SerializeResult<Fields>
-    ensures octets { TellsFields (fields_of_struct T.laws) value.now → IfOk result
-        (λ taken. standing (taken_in taken) ≡ fields_octets (fields_of_struct T.laws) value.now) }
-    ensures refused { TellsFields (fields_of_struct T.laws) value.now → IfErr result
+    ensures octets { SpecifiesFields (fields_of_struct T.laws) value.now → IfOk result
+        (λ taken. collected (taken_in taken) ≡ fields_octets (fields_of_struct T.laws) value.now) }
+    ensures refused { SpecifiesFields (fields_of_struct T.laws) value.now → IfErr result
         (VectorRefuses (length (fields_octets (fields_of_struct T.laws) value.now))
         (FieldsRefuse (fields_of_struct T.laws) value.now)) }
-    ensures accepted { (e : SerializeError) → TellsFields (fields_of_struct T.laws) value.now →
+    ensures accepted { (e : SerializeError) → SpecifiesFields (fields_of_struct T.laws) value.now →
         FieldsRefuse (fields_of_struct T.laws) value.now e → IsErr result }
-    ensures uncounted { (e : Error) → TellsFields (fields_of_struct T.laws) value.now →
+    ensures uncounted { (e : Error) → SpecifiesFields (fields_of_struct T.laws) value.now →
         FieldsRefuseCount (fields_of_struct T.laws) value.now e → IsErr result }
     ensures memory { IfErr result (λ e. tells_of_io e ≡ false) }
 {
@@ -83,14 +84,14 @@ fn prepend_fields<T: LawfulStruct>(
     alloc: Global,
     buf: &mut DerBuffer,
 ) -> SerializeResult<usize>
-    ensures prepended { TellsFields (fields_of_struct T.laws) value.now →
+    ensures prepended { SpecifiesFields (fields_of_struct T.laws) value.now →
         Prepended (fields_octets (fields_of_struct T.laws) value.now) buf.old buf.new result }
-    ensures refused { TellsFields (fields_of_struct T.laws) value.now → IfErr result
+    ensures refused { SpecifiesFields (fields_of_struct T.laws) value.now → IfErr result
         (VectorRefuses (length (fields_octets (fields_of_struct T.laws) value.now) + length buf.old)
         (FieldsRefuse (fields_of_struct T.laws) value.now)) }
-    ensures accepted { (e : SerializeError) → TellsFields (fields_of_struct T.laws) value.now →
+    ensures accepted { (e : SerializeError) → SpecifiesFields (fields_of_struct T.laws) value.now →
         FieldsRefuse (fields_of_struct T.laws) value.now e → IsErr result }
-    ensures uncounted { (e : Error) → TellsFields (fields_of_struct T.laws) value.now →
+    ensures uncounted { (e : Error) → SpecifiesFields (fields_of_struct T.laws) value.now →
         FieldsRefuseCount (fields_of_struct T.laws) value.now e → IsErr result }
 {
     let held = buf.len();

@@ -2,7 +2,7 @@
 ghost use Rattle.std.specs.Prelude.{◌≡◌, IfOk, IfErr, true};
 ghost use Rattle.std.specs.List.{AllZip};
 ghost use Rattle.asn1_headers.specs.declared.error.Error.TheVariants as errors;
-ghost use Rattle.asn1_rs.specs.Copies.{CopiesHeld};
+ghost use Rattle.asn1_rs.specs.Copies.{CopiesSome};
 ghost use Rattle.asn1_rs.specs.Sequence.SequenceOf.{sequence_items};
 ghost use Rattle.asn1_rs.specs.Set.{items_of};
 
@@ -30,7 +30,7 @@ impl<T: ToStatic> ToStatic for &T {
 impl<T: ToStatic> ToStatic for Option<T> {
     type Owned = Option<T::Owned>;
 
-    ghost copies = { CopiesHeld T.copies };
+    ghost copies = { CopiesSome T.copies };
 
     ghost copy_allocates = { T.copy_allocates };
 

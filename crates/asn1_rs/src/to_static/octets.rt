@@ -2,15 +2,18 @@
 ghost use Rattle.std.specs.Prelude.{◌≡◌, string_bytes, IfOk, IfErr, option_copied, option_map};
 ghost use Rattle.std.specs.Cow.{cow_slice_items, cow_str_bytes};
 ghost use Rattle.asn1_headers.specs.declared.error.Error.TheVariants as errors;
-ghost use Rattle.asn1_rs.specs.BitString.{bits_in};
+ghost use Rattle.asn1_rs.specs.Any.Kept.{KeepsElement, kept_content};
+ghost use Rattle.asn1_rs.specs.BitString.{bits_of_string};
 ghost use Rattle.asn1_rs.specs.Copies.{IsCopyOfHeader};
 ghost use Rattle.asn1_rs.specs.Integer.Octets.{integer_octets};
 ghost use Rattle.asn1_rs.specs.Kept.{kept_octets};
-ghost use Rattle.asn1_rs.specs.OctetString.{octets_of};
+ghost use Rattle.asn1_rs.specs.OctetString.{string_octets};
 ghost use Rattle.asn1_rs.specs.Oid.{oid_value};
-ghost use Rattle.asn1_rs.specs.Strings.{text_of};
+ghost use Rattle.asn1_rs.specs.Strings.{string_text};
 
 use super::ToStatic;
+use crate::asn1_types::any::Any;
+use crate::asn1_types::any::kept::KeptAny;
 use crate::asn1_types::bit_string::BitString;
 use crate::asn1_types::integer::octets::Integer;
 use crate::asn1_types::kept::Kept;
@@ -102,6 +105,41 @@ impl ToStatic for Header<'_> {
     }
 }
 
+/// A copy of the element that owns its octets.
+fn owned_element(
+    alloc: Global,
+    header: &Header<'_>,
+    content: &[u8],
+) -> Result<KeptAny<'static>, Error>
+    ensures copied { IfOk result (KeepsElement header.now content.now) }
+    ensures refused { IfErr result (λ e. e ≡ errors.OutOfMemory) }
+{
+    let header = header.to_static(alloc)?;
+    Ok(KeptAny::new(header, owned_octets(alloc, content)?))
+}
+
+/// The copy owns its octets, which an `Any` can't.
+impl ToStatic for Any<'_> {
+    type Owned = KeptAny<'static>;
+
+    ghost copies = { λ source copy. KeepsElement source.header source.content.now copy };
+
+    fn to_static(&self, alloc: Global) -> Result<KeptAny<'static>, Error> {
+        owned_element(alloc, &self.header, self.content)
+    }
+}
+
+/// The copy owns its octets.
+impl ToStatic for KeptAny<'_> {
+    type Owned = KeptAny<'static>;
+
+    ghost copies = { λ source copy. KeepsElement source.header (kept_content source) copy };
+
+    fn to_static(&self, alloc: Global) -> Result<KeptAny<'static>, Error> {
+        owned_element(alloc, &self.header, self.content.as_slice())
+    }
+}
+
 /// The copy owns its contents octets.
 impl<K: 'static> ToStatic for Kept<'_, K> {
     type Owned = Kept<'static, K>;
@@ -117,7 +155,7 @@ impl<K: 'static> ToStatic for Kept<'_, K> {
 impl ToStatic for OctetString<'_> {
     type Owned = OctetString<'static>;
 
-    ghost copies = { λ source copy. octets_of copy ≡ octets_of source };
+    ghost copies = { λ source copy. string_octets copy ≡ string_octets source };
 
     fn to_static(&self, alloc: Global) -> Result<OctetString<'static>, Error> {
         Ok(OctetString::of_cow(owned_octets(alloc, self.as_bytes())?))
@@ -128,7 +166,7 @@ impl ToStatic for OctetString<'_> {
 impl ToStatic for &[u8] {
     type Owned = OctetString<'static>;
 
-    ghost copies = { λ source copy. octets_of copy ≡ source.now };
+    ghost copies = { λ source copy. string_octets copy ≡ source.now };
 
     fn to_static(&self, alloc: Global) -> Result<OctetString<'static>, Error> {
         Ok(OctetString::of_cow(owned_octets(alloc, *self)?))
@@ -150,7 +188,7 @@ impl ToStatic for Integer<'_> {
 impl ToStatic for BitString<'_> {
     type Owned = BitString<'static>;
 
-    ghost copies = { λ source copy. bits_in copy ≡ bits_in source };
+    ghost copies = { λ source copy. bits_of_string copy ≡ bits_of_string source };
 
     fn to_static(&self, alloc: Global) -> Result<BitString<'static>, Error> {
         Ok(BitString {
@@ -175,7 +213,7 @@ impl ToStatic for Oid<'_> {
 impl<K: 'static, F: 'static> ToStatic for RestrictedString<'_, K, F> {
     type Owned = RestrictedString<'static, K, F>;
 
-    ghost copies = { λ source copy. text_of copy ≡ text_of source };
+    ghost copies = { λ source copy. string_text copy ≡ string_text source };
 
     fn to_static(&self, alloc: Global) -> Result<RestrictedString<'static, K, F>, Error> {
         Ok(RestrictedString::from(owned_text(alloc, self.as_str())?))

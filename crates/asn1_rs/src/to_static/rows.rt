@@ -9,13 +9,7 @@
 //!             ⟦<ExtensionRow<'static> as ToStatic>⟧.copies };
 //!
 //!         fn to_static(&self, alloc: Global) -> Result<Extension<'static>, Error> {
-//!             match (&self.id, (&self.critical, (&self.value, ()))).to_static(alloc) {
-//!                 Ok(row) => {
-//!                     let (id, (critical, (value, ()))) = row;
-//!                     Ok(Extension { id, critical, value })
-//!                 }
-//!                 Err(e) => Err(e),
-//!             }
+//!             copy_fields!(self, alloc => Extension { id, critical, value })
 //!         }
 //!     }
 ghost use Rattle.std.specs.Prelude.{◌≡◌, ◌||◌, false};

@@ -22,7 +22,7 @@ use Rattle.asn1_rs.specs.LeafReading.{IsExactReading}
 use Rattle.asn1_rs.specs.Structs.Data.{LawfulTypeOf}
 use Rattle.asn1_rs.specs.Structs.Types.{element_type}
 use Rattle.asn1_rs_profiles.specs.Joined.{IsStrictContent, JoinedBody, JoinedGives, JoinedRefuses, joined_element}
-use Rattle.asn1_rs_profiles.specs.Joined.{joined_reading, octets_in}
+use Rattle.asn1_rs_profiles.specs.Joined.{joined_reading, octets_of_joined}
 use Rattle.asn1_rs_profiles.specs.Joined.Laws.{primitive_says, says_octets, says_one}
 use Rattle.asn1_rs_profiles.specs.Joined.Pieces.{SaysOctets}
 use Rattle.asn1_rs_profiles.specs.declared.joined.Joined.{Joined}
@@ -76,10 +76,11 @@ module _ {K : Type 0} (number : ℕ) (IsText : List ℕ → Type 0) (small : num
     where
       exact : (any : Any) (answer : Result (Joined K) Error) → IsOctets any.content.now →
           JoinedGives number IsText any answer →
-          TakesBody (JoinedBody number IsText) (octets_in {K = K}) true (λ (x y : Error). y ≡ x) (parts_of any) answer
+          TakesBody (JoinedBody number IsText) (octets_of_joined {K = K}) true (λ (x y : Error). y ≡ x) (parts_of any)
+          answer
       exact any (Ok x) o g = g.0
       exact any (Err e) o (inl g) = inr (λ v b. g.0 b.0)
-      exact any (Err e) o (inr g) = refused (octets_in {K = K}) number IsText (parts_of any) e g.1
+      exact any (Err e) o (inr g) = refused (octets_of_joined {K = K}) number IsText (parts_of any) e g.1
 
   -- So reading them is.
   pub joined_exact : IsExactReading (joined_reading {K = K} number IsText)
@@ -90,7 +91,7 @@ module _ {K : Type 0} (number : ℕ) (IsText : List ℕ → Type 0) (small : num
   }
 
   -- Their octets are what is written.
-  pub joined_written : IsWrittenElement (joined_element {K = K} number IsText) number octets_in (λ x. false)
+  pub joined_written : IsWrittenElement (joined_element {K = K} number IsText) number octets_of_joined (λ x. false)
   joined_written = record {
     by_value = λ x y e. e;
     identifier = λ v i c f. f.0;
@@ -103,9 +104,9 @@ module _ {K : Type 0} (number : ℕ) (IsText : List ℕ → Type 0) (small : num
 
   -- They are fields of structs.
   abbrev pub joined_type : LawfulTypeOf (Joined K)
-  joined_type = element_type number (joined_element number IsText) octets_in joined_lawful joined_written
+  joined_type = element_type number (joined_element number IsText) octets_of_joined joined_lawful joined_written
 
 -- two are equal where their octets are
 pub joined_equal : {K : Type 0} (x y : Joined K) →
-    IsTrue (pointwise nat_eq (octets_in x) (octets_in y)) ↔ (octets_in x ≡ octets_in y)
-joined_equal x y = pointwise_decides unsigned_Decides (octets_in x) (octets_in y)
+    IsTrue (pointwise nat_eq (octets_of_joined x) (octets_of_joined y)) ↔ (octets_of_joined x ≡ octets_of_joined y)
+joined_equal x y = pointwise_decides unsigned_Decides (octets_of_joined x) (octets_of_joined y)

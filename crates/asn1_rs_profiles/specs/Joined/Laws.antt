@@ -13,7 +13,7 @@ use Rattle.x690.specs.Laws.Words.{nested_words}
 use Rattle.asn1_headers.specs.Ber.{max_depth}
 use Rattle.asn1_rs.specs.Grammar.{BerWord, IsOneBody, NoCheck}
 use Rattle.asn1_rs.specs.Laws.Words.{word_one}
-use Rattle.asn1_rs_profiles.specs.Joined.Pieces.{AreJoined, ArePieces, IsPiece, SaysOctets}
+use Rattle.asn1_rs_profiles.specs.Joined.Pieces.{AreJoined, AreStringPieces, IsStringPiece, SaysOctets}
 
 -- Words of one grammar.
 
@@ -46,8 +46,9 @@ module _ (Piece : List ℕ → List ℕ → Type 0) where
 
 module _ (Piece : List ℕ → List ℕ → Type 0) (one : IsPrefixFree Piece) where
   -- pieces join to one string
-  pub joined_one : (content a b : List ℕ) → AreJoined Piece content a → AreJoined Piece content b → a ≡ b
-  joined_one content a b i j = i.2 ∙ ap concat (joined_same Piece one content content i.0 j.0 refl i.1 j.1) ∙ sym j.2
+  pub one_joined_string : (content a b : List ℕ) → AreJoined Piece content a → AreJoined Piece content b → a ≡ b
+  one_joined_string content a b i j = i.2 ∙ ap concat (joined_same Piece one content content i.0 j.0 refl i.1 j.1) ∙
+      sym j.2
 
   -- one more is
   pub one_joined : (content rest done word tail said : List ℕ) → IsJoinedSoFar Piece content rest done →
@@ -89,13 +90,13 @@ says_one (suc depth) p v w (inl i) (inl j) = sym i.1 ∙ j.1
 says_one (suc depth) p v w (inl i) (inr j) = absurd (cc (i.0, j.0))
 says_one (suc depth) p v w (inr i) (inl j) = absurd (cc (i.0, j.0))
 says_one (suc depth) p v w (inr i) (inr j) =
-    joined_one (BerWord (IsPiece depth))
-    (word_one (IsElement max_depth) NoCheck (IsPiece depth) (nested_words max_depth)
+    one_joined_string (BerWord (IsStringPiece depth))
+    (word_one (IsElement max_depth) NoCheck (IsStringPiece depth) (nested_words max_depth)
     (λ q x y a b. says_one depth q x y a.1 b.1)) p.content v w i.1 j.1
 
 -- one piece alone begins octets
-pub one_piece : (depth : ℕ) → IsPrefixFree (BerWord (IsPiece depth))
-one_piece depth = word_one (IsElement max_depth) NoCheck (IsPiece depth) (nested_words max_depth)
+pub one_piece : (depth : ℕ) → IsPrefixFree (BerWord (IsStringPiece depth))
+one_piece depth = word_one (IsElement max_depth) NoCheck (IsStringPiece depth) (nested_words max_depth)
     (λ q x y a b. says_one depth q x y a.1 b.1)
 
 -- what it says are octets
@@ -104,7 +105,7 @@ unfolding SaysOctets
 says_octets zero p v o s = absurd s
 says_octets (suc depth) p v o (inl s) = subst IsOctets s.1 o
 says_octets (suc depth) p v o (inr s) = subst IsOctets (sym s.1.2)
-    (joined_octets (BerWord (IsPiece depth))
+    (joined_octets (BerWord (IsStringPiece depth))
     (λ w x a. says_octets depth a.0 x (nested_possible max_depth w a.0 a.1.0 a.1.1).content a.3.1)
     p.content s.1.0 s.1.1)
 
@@ -125,22 +126,22 @@ primitive_said (suc depth) p v primitive (inr s) = absurd (cc (primitive, s.0))
 
 -- a constructed one says what its pieces join to
 pub constructed_says : (depth : ℕ) (p : Parts) (v : List ℕ) → (depth ≡ 0 → ⊥) → p.id.constructed ≡ true →
-    ArePieces (depth - 1) p.content v → SaysOctets depth p v
+    AreStringPieces (depth - 1) p.content v → SaysOctets depth p v
 unfolding SaysOctets
 constructed_says zero p v some constructed a = absurd (some refl)
 constructed_says (suc depth) p v some constructed a =
     let z : suc depth - 1 ≡ depth = omega arith in
-    inr (constructed, subst (λ (d : ℕ). ArePieces d p.content v) z a)
+    inr (constructed, subst (λ (d : ℕ). AreStringPieces d p.content v) z a)
 
 -- and nothing else
 pub constructed_said : (depth : ℕ) (p : Parts) (v : List ℕ) → p.id.constructed ≡ true → SaysOctets depth p v →
-    ArePieces (depth - 1) p.content v
+    AreStringPieces (depth - 1) p.content v
 unfolding SaysOctets
 constructed_said zero p v constructed s = absurd s
 constructed_said (suc depth) p v constructed (inl s) = absurd (cc (constructed, s.0))
 constructed_said (suc depth) p v constructed (inr s) =
     let z : depth ≡ suc depth - 1 = omega arith in
-    subst (λ (d : ℕ). ArePieces d p.content v) z s.1
+    subst (λ (d : ℕ). AreStringPieces d p.content v) z s.1
 
 -- Nothing is said below all depth.
 pub none_said : (depth : ℕ) (p : Parts) (v : List ℕ) → depth ≡ 0 → SaysOctets depth p v → ⊥

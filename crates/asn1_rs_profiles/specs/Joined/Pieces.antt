@@ -8,7 +8,7 @@ use Rattle.x690.specs.Identifiers.{Identifier}
 use Rattle.x690.specs.Elements.{Parts}
 use Rattle.x690.specs.Joined.{IsConcatenation}
 use Rattle.x690.specs.Nested.{IsElement}
-use Rattle.asn1_headers.specs.Answers.{Front}
+use Rattle.asn1_headers.specs.Answers.{HasPrefix}
 use Rattle.asn1_headers.specs.Ber.{max_depth}
 use Rattle.asn1_headers.specs.declared.error.Error.{Error}
 use Rattle.asn1_headers.specs.declared.error.Error.TheVariants.{BerValueError, OutOfMemory}
@@ -33,17 +33,17 @@ SaysOctets (suc depth) p octets =
     AreJoined (BerWord (λ (q : Parts) (o : List ℕ). IsPieceTag q.id × SaysOctets depth q o)) p.content octets)
 
 -- a piece, and what it says
-abbrev pub IsPiece : ℕ → Parts → List ℕ → Type 0
-IsPiece depth p octets = IsPieceTag p.id × SaysOctets depth p octets
+abbrev pub IsStringPiece : ℕ → Parts → List ℕ → Type 0
+IsStringPiece depth p octets = IsPieceTag p.id × SaysOctets depth p octets
 
 -- contents octets are pieces, and what these say
-abbrev pub ArePieces : ℕ → List ℕ → List ℕ → Type 0
-ArePieces depth = AreJoined (BerWord (IsPiece depth))
+abbrev pub AreStringPieces : ℕ → List ℕ → List ℕ → Type 0
+AreStringPieces depth = AreJoined (BerWord (IsStringPiece depth))
 
 -- a piece begins the octets, with this bit and these contents octets, and the rest follows
 pub record BeginsWithPiece (octets : List ℕ) (constructed : Bool) (content rest : List ℕ) : Type 0 where
   pub parts : Parts
-  pub front : Front (IsElement max_depth) octets parts rest
+  pub front : HasPrefix (IsElement max_depth) octets parts rest
   pub tag : IsPieceTag parts.id
   pub bit : parts.id.constructed ≡ constructed
   pub inner : parts.content ≡ content
@@ -54,9 +54,9 @@ HasNoPiece octets = (word rest : List ℕ) (p : Parts) → octets ≡ word ++ re
     IsPieceTag p.id → ⊥
 
 -- What appending such octets to others may answer. There are none such where it is refused, except when out of memory.
-abbrev pub Joins : (List ℕ → Type 0) → List ℕ → List ℕ → Result (Unit {0}) Error → Type 0
-Joins Such old new (Ok x) = (octets : List ℕ) × Such octets × (new ≡ old ++ octets)
-Joins Such old new (Err e) = (e ≡ OutOfMemory) ⊎ ((e ≡ BerValueError) × ((octets : List ℕ) → Such octets → ⊥))
+abbrev pub AppendsSuch : (List ℕ → Type 0) → List ℕ → List ℕ → Result (Unit {0}) Error → Type 0
+AppendsSuch Such old new (Ok x) = (octets : List ℕ) × Such octets × (new ≡ old ++ octets)
+AppendsSuch Such old new (Err e) = (e ≡ OutOfMemory) ⊎ ((e ≡ BerValueError) × ((octets : List ℕ) → Such octets → ⊥))
 
 -- What a string of these parts may answer for its octets: those that it says, which are lent where it is primitive. One
 -- in pieces is refused when out of memory, or where it says no octets.

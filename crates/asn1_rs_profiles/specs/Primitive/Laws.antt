@@ -11,7 +11,7 @@ use Rattle.asn1_rs.specs.Laws.Checks.{before_is, content_check_is, is_primitive_
 use Rattle.asn1_rs.specs.Leaf.{IsLawfulLeaf}
 use Rattle.asn1_rs.specs.Structs.Data.{LawfulTypeOf}
 use Rattle.asn1_rs.specs.Structs.Types.{leaf_type}
-use Rattle.asn1_rs_profiles.specs.Primitive.{octets_in, primitive_leaf}
+use Rattle.asn1_rs_profiles.specs.Primitive.{octets_of_primitive, primitive_leaf}
 use Rattle.asn1_rs_profiles.specs.declared.primitive.Primitive.{Primitive}
 
 -- They are lawful.
@@ -40,5 +40,5 @@ primitive_type number IsText small primitive =
 
 -- two are equal where their octets are
 pub primitive_equal : {K : Type 0} (x y : Primitive K) →
-    IsTrue (bytes_eq (octets_in x) (octets_in y)) ↔ (octets_in x ≡ octets_in y)
-primitive_equal x y = bytes_decides (octets_in x) (octets_in y)
+    IsTrue (bytes_eq (octets_of_primitive x) (octets_of_primitive y)) ↔ (octets_of_primitive x ≡ octets_of_primitive y)
+primitive_equal x y = bytes_decides (octets_of_primitive x) (octets_of_primitive y)

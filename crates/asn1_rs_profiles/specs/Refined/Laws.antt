@@ -6,8 +6,8 @@ use mathlib.Core.Logic.{∥∥₁_map}
 use Rattle.x690.specs.Octets.{IsOctets}
 use Rattle.x690.specs.Identifiers.{Identifier}
 use Rattle.x690.specs.Elements.{Parts}
-use Rattle.asn1_headers.specs.Answers.{Exactly, TellsMemory, IsOther, Front, Speaks}
-use Rattle.asn1_headers.specs.Error.{HeldIn}
+use Rattle.asn1_headers.specs.Answers.{Exactly, TellsMemory, IsOther, HasPrefix, Speaks}
+use Rattle.asn1_headers.specs.Error.{ErrorIs}
 use Rattle.asn1_headers.specs.declared.error.Err.{Err as Refusal}
 use Rattle.asn1_headers.specs.declared.error.Err.TheVariants.{Error as refused}
 use Rattle.asn1_headers.specs.declared.error.Error.{Error}
@@ -18,11 +18,11 @@ use Rattle.asn1_rs.specs.Any.{parts_of}
 use Rattle.asn1_rs.specs.Grammar.{TakesBody, FormNumber, FormTakes}
 use Rattle.asn1_rs.specs.Grammar.Form.{IsStrict}
 use Rattle.asn1_rs.specs.Grammar.Item.{ItemGrammar, IsLawfulItem, IsLawfulWriting}
-use Rattle.asn1_rs.specs.Laws.Readers.{front_more}
+use Rattle.asn1_rs.specs.Laws.Readers.{prefix_more}
 use Rattle.asn1_rs.specs.Structs.Data.{LawfulTypeOf}
 use Rattle.asn1_rs.specs.Structs.Keys.{LawfulKeyOf}
-use Rattle.asn1_rs.specs.ToDer.{Writing, held_writing}
-use Rattle.asn1_rs_profiles.specs.Refined.{GoesByValue, IsKept, IsOutside, RefinedReads, RefinedTakes, TellsOutside}
+use Rattle.asn1_rs.specs.ToDer.{Writing, inner_writing}
+use Rattle.asn1_rs_profiles.specs.Refined.{GoesByValue, IsKept, IsOutside, RefinedReads, RefinedConverts, TellsOutside}
 use Rattle.asn1_rs_profiles.specs.Refined.{RefinedRefuses}
 use Rattle.asn1_rs_profiles.specs.Refined.{refined_grammar}
 
@@ -55,7 +55,7 @@ module _ {S T : Type 0} (held : T → S) (keeps : S → Bool) (G : ItemGrammar S
 
   -- It is written as its type.
   pub refined_written : (w : Writing S) → IsLawfulWriting G w →
-      IsLawfulWriting (refined_grammar held keeps G) (held_writing held w)
+      IsLawfulWriting (refined_grammar held keeps G) (inner_writing held w)
   refined_written w l = record {
     tells_all = λ x. l.tells_all (held x);
     by_value = λ x y. l.by_value (held x) (held y);
@@ -84,7 +84,7 @@ refined_type held keeps T = record {
   numbers = T.numbers;
   single = T.single;
   grammar = refined_grammar held keeps T.grammar;
-  writing = held_writing held T.writing;
+  writing = inner_writing held T.writing;
   takes = T.takes;
   sound = T.sound;
   lawful = λ s. refined_lawful held keeps T.grammar (T.lawful s);
@@ -116,7 +116,7 @@ module _ {S T E : Type 0} (held : T → S) (keeps : S → Bool) (own : Error →
       ((any : Any) (answer : Result S E) → IsOctets any.content.now → takes any answer →
       TakesBody G.Body G.value G.allocates from (parts_of any) answer) →
       (any : Any) (answer : Result T E) → IsOctets any.content.now →
-      RefinedTakes held keeps own from takes any answer →
+      RefinedConverts held keeps own from takes any answer →
       TakesBody (refined_grammar held keeps G).Body (λ x. G.value (held x)) G.allocates from (parts_of any) answer
   refined_takes takes exact any (Ok x) o h = (exact any (Ok (held x)) o h.0, (held x, refl, h.1))
   refined_takes takes exact any (Err e) o (inl h) = elim (exact any (Err e) o h) [
@@ -143,8 +143,8 @@ module _ {S T E : Type 0} (held : T → S) (keeps : S → Bool) (own : Error →
   ]
   refined_reads IsTruncated memory reads exact input (Err r) o (inr (x, h, out, tells)) =
       inr (λ more s w rest v e d.
-      let front : Front G.Der (input ++ more) (G.value x.1) (x.0 ++ more) =
-      front_more G.Der input (G.value x.1) x.0 more (exact input (Ok x) o h) in
+      let front : HasPrefix G.Der (input ++ more) (G.value x.1) (x.0 ++ more) =
+      prefix_more G.Der input (G.value x.1) x.0 more (exact input (Ok x) o h) in
       lacks x.1 v out
       (l.der_one.one front.word w (x.0 ++ more) rest (G.value x.1) v front.fits d.0 (sym front.is ∙ e)).1 d.1)
 
@@ -165,13 +165,13 @@ module _ {S E : Type 0} (keeps : S → Bool) (own : Error → Type 0) (from : Er
   pub refined_reads_no_memory : {T : Type 0} (held : T → S)
       (reads : List ℕ → Result (List ℕ × S) (Refusal E) → Type 0) →
       ((input : List ℕ) (answer : Result (List ℕ × S) (Refusal E)) → reads input answer →
-      IfErr answer (HeldIn (IsOther from))) →
+      IfErr answer (ErrorIs (IsOther from))) →
       (input : List ℕ) (answer : Result (List ℕ × T) (Refusal E)) →
-      RefinedReads held keeps own from reads input answer → IfErr answer (HeldIn (IsOther from))
+      RefinedReads held keeps own from reads input answer → IfErr answer (ErrorIs (IsOther from))
   refined_reads_no_memory held reads none input (Ok x) h = tt
   refined_reads_no_memory held reads none input (Err r) (inl h) = none input (Err r) h
   refined_reads_no_memory held reads none input (Err r) (inr (x, h, out, (e, tells, is))) =
-      subst (HeldIn (IsOther from)) (sym is) (own_other e tells)
+      subst (ErrorIs (IsOther from)) (sym is) (own_other e tells)
 
 -- The refusal of a value that lacks the property is not out of memory.
 pub outside_other : (tag : Tag) (e : Error) → IsOutside tag e → e ≡ OutOfMemory → ⊥

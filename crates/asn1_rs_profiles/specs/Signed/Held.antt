@@ -9,7 +9,7 @@ use Rattle.asn1_rs.specs.Grammar.Item.{ItemGrammar}
 use Rattle.asn1_rs.specs.Structs.Data.{LawfulTypeOf}
 use Rattle.asn1_rs.specs.ToDer.{whole_octets}
 use Rattle.asn1_rs_profiles.specs.Signed.{signed_grammar}
-use Rattle.asn1_rs_profiles.specs.Signed.Laws.{signed_type}
+use Rattle.asn1_rs_profiles.specs.Signed.Laws.{type_of_signed}
 use Rattle.asn1_rs_profiles.specs.declared.signed.Signed.{Signed}
 
 -- its element, and the value that was read of it
@@ -29,12 +29,12 @@ octets_under number s =
     header_octets 0 (is_constructed_of s.element.header) number (length s.element.content.now) ++ s.element.content.now
 
 -- its grammar over that of the value, and the record of its type
-abbrev pub signed : {T : Type 0} → ItemGrammar T → ItemGrammar (Signed T)
-signed G = signed_grammar element_in value_in G
+abbrev pub grammar_of_signed : {T : Type 0} → ItemGrammar T → ItemGrammar (Signed T)
+grammar_of_signed G = signed_grammar element_in value_in G
 
 -- what it says: the element, and the value
 abbrev pub said_in : {T : Type 0} → (G : ItemGrammar T) → Signed T → ElementValue × G.Value
 said_in G s = (element_of s.element, G.value s.value)
 
 abbrev pub type_signed : {T : Type 0} → LawfulTypeOf T → LawfulTypeOf (Signed T)
-type_signed T = signed_type element_in value_in T
+type_signed T = type_of_signed element_in value_in T

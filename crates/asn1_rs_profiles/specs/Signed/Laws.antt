@@ -13,7 +13,7 @@ use Rattle.x690.specs.Laws.StrictElements.{strict_element_unique, strict_is_defi
 use Rattle.asn1_headers.specs.declared.error.Err.{Err as Refusal}
 use Rattle.asn1_headers.specs.declared.error.Error.{Error}
 use Rattle.asn1_headers.specs.Answers.{Exactly, IsOther, TellsMemory}
-use Rattle.asn1_headers.specs.Error.{HeldIn}
+use Rattle.asn1_headers.specs.Error.{ErrorIs}
 use Rattle.asn1_headers.specs.Header.{is_constructed_of}
 use Rattle.asn1_rs.specs.declared.asn1_types.any.Any.{Any}
 use Rattle.asn1_rs.specs.Any.{parts_of}
@@ -28,7 +28,7 @@ use Rattle.asn1_rs.specs.Laws.Forms.{nothing_refused}
 use Rattle.asn1_rs.specs.Laws.Readers.{der_elements}
 use Rattle.asn1_rs.specs.Structs.Data.{LawfulTypeOf}
 use Rattle.asn1_rs.specs.ToDer.{IsWritable}
-use Rattle.asn1_rs_profiles.specs.Signed.{SignedBody, SignedForm, SignedReads, SignedTakes, SignedWord, said_by}
+use Rattle.asn1_rs_profiles.specs.Signed.{SignedBody, SignedForm, SignedReads, SignedConverts, SignedWord, said_by}
 use Rattle.asn1_rs_profiles.specs.Signed.{signed_grammar, signed_writing}
 
 -- Pairs are the same where both parts are.
@@ -81,8 +81,8 @@ module _ {S T : Type 0} (element : S → Any) (inner : S → T) (G : ItemGrammar
   }
 
   -- What keeps the octets is as lawful as the value.
-  pub signed_lawful : IsLawfulItem (signed_grammar element inner G)
-  signed_lawful = record {
+  pub signed_grammar_lawful : IsLawfulItem (signed_grammar element inner G)
+  signed_grammar_lawful = record {
     one_equality = Σ_set element_lawful.one_equality (λ _. l.one_equality);
     der_element = λ o v w.
         (made (v.0).id (v.0).content, strict_der_element o (v.0).id (v.0).content w.element);
@@ -152,7 +152,7 @@ module _ {S T : Type 0} (element : S → Any) (inner : S → T) (G : ItemGrammar
   pub signed_takes : (takes : Any → Result T Error → Type 0) (any : Any) →
       ((answer : Result T Error) → takes any answer →
       TakesBody G.Body G.value G.allocates (λ (x y : Error). y ≡ x) (parts_of any) answer) →
-      (answer : Result S Error) → SignedTakes element inner takes any answer →
+      (answer : Result S Error) → SignedConverts element inner takes any answer →
       TakesBody (SignedBody G.Body)
       (λ s. let v : ElementValue × G.Value = (element_of (element s), G.value (inner s)) in v) true
       (λ (x y : Error). y ≡ x) (parts_of any) answer
@@ -165,9 +165,9 @@ module _ {S T : Type 0} (element : S → Any) (inner : S → T) (G : ItemGrammar
   ]
 
 -- The octets of a word are the octets of its element.
-pub signed_octets : {V : Type 0} (Der : List ℕ → V → Type 0) (octets : List ℕ) (any : Any) (v : V) →
+pub octets_of_signed : {V : Type 0} (Der : List ℕ → V → Type 0) (octets : List ℕ) (any : Any) (v : V) →
     SignedWord Der octets (element_of any, v) → octets ≡ element_header any ++ content_of any
-signed_octets Der octets any v w =
+octets_of_signed Der octets any v w =
     strict_element_octets octets (element_of any).id (element_of any).content w.element
 
 -- never true
@@ -182,7 +182,7 @@ module _ (none : true ≡ false) where
 
   pub signed_no_memory : {S : Type 0} (reads : List ℕ → Result (List ℕ × S) (Refusal Error) → Type 0)
       (input : List ℕ) (answer : Result (List ℕ × S) (Refusal Error)) → reads input answer →
-      IfErr answer (HeldIn (IsOther (λ (x y : Error). y ≡ x)))
+      IfErr answer (ErrorIs (IsOther (λ (x y : Error). y ≡ x)))
   signed_no_memory reads input answer g = absurd never
 
   pub signed_takes_no_memory : {S : Type 0} (takes : Any → Result S Error → Type 0) (any : Any) (e : Error) →
@@ -190,8 +190,8 @@ module _ (none : true ≡ false) where
   signed_takes_no_memory takes any e g = absurd never
 
 -- A lawful type whose octets are kept. It stands under no implicit tag: there other octets are in the input.
-abbrev pub signed_type : {S T : Type 0} → (S → Any) → (S → T) → LawfulTypeOf T → LawfulTypeOf S
-signed_type element inner T = record {
+abbrev pub type_of_signed : {S T : Type 0} → (S → Any) → (S → T) → LawfulTypeOf T → LawfulTypeOf S
+type_of_signed element inner T = record {
   class = T.class;
   number = T.number;
   numbers = T.numbers;
@@ -200,7 +200,7 @@ signed_type element inner T = record {
   writing = signed_writing element;
   takes = λ class. false;
   sound = T.sound;
-  lawful = λ s. signed_lawful element inner T.grammar (T.lawful s);
+  lawful = λ s. signed_grammar_lawful element inner T.grammar (T.lawful s);
   begins = λ v i c f. T.begins v.1 i c f.form;
   numbered = λ s v i c f. T.numbered s v.1 i c f.form;
   classed = λ s v i c f. T.classed s v.1 i c f.form;

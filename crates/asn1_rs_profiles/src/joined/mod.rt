@@ -1,7 +1,7 @@
 //! Strings whose pieces are joined (X.690 8.7.3, 8.23.3).
 ghost use Rattle.std.specs.Prelude.{◌≡◌};
 ghost use Rattle.std.specs.Cow.{IsBorrowedSlice};
-ghost use Rattle.asn1_rs_profiles.specs.Joined.{held_in, octets_in};
+ghost use Rattle.asn1_rs_profiles.specs.Joined.{held_in, octets_of_joined};
 
 mod kinds;
 mod pieces;
@@ -34,7 +34,7 @@ pub type JoinedOctets<'a> = Joined<'a, OctetKind>;
 impl<'a, K> Joined<'a, K> {
     /// The string of these octets, which it borrows. Whether its type has them is not looked at.
     pub const fn new(octets: &'a [u8]) -> Self
-        ensures octets { octets_in result ≡ octets.now }
+        ensures octets { octets_of_joined result ≡ octets.now }
         ensures borrowed { IsBorrowedSlice (held_in result) }
     {
         Joined {
@@ -59,7 +59,7 @@ impl<'a, K> Joined<'a, K> {
 
     /// The octets.
     pub fn as_bytes(&self) -> &[u8]
-        ensures { result.now ≡ octets_in self.now }
+        ensures { result.now ≡ octets_of_joined self.now }
     {
         self.octets.as_slice()
     }

@@ -4,7 +4,8 @@ ghost use Rattle.x690.specs.Elements.{Parts};
 ghost use Rattle.asn1_headers.specs.declared.error.Error.TheVariants as errors;
 ghost use Rattle.asn1_headers.specs.Elements.{element_parts};
 ghost use Rattle.asn1_headers.specs.Header.{identifier_of};
-ghost use Rattle.asn1_rs_profiles.specs.Joined.Pieces.{ArePieces, BeginsWithPiece, HasNoPiece, IsPieceTag, Joins};
+ghost use Rattle.asn1_rs_profiles.specs.Joined.Pieces.{AreStringPieces, BeginsWithPiece, HasNoPiece, IsPieceTag};
+ghost use Rattle.asn1_rs_profiles.specs.Joined.Pieces.{AppendsSuch};
 ghost use Rattle.asn1_rs_profiles.specs.Joined.Pieces.{SaysOctets, TakesOctets};
 
 use asn1_headers::ber::{Steps, element_to_depth};
@@ -69,7 +70,7 @@ fn push_piece(
     joined: &mut Vec<u8>,
 ) -> Result<(), Error>
     ensures { (p : Parts) → p.id.constructed ≡ constructed → p.content ≡ content.now →
-        Joins (SaysOctets depth p) joined.old.items joined.new.items result }
+        AppendsSuch (SaysOctets depth p) joined.old.items joined.new.items result }
 {
     if depth == 0 {
         return Err(Error::BerValueError);
@@ -83,7 +84,8 @@ fn push_piece(
 /// Appends what the pieces say that contents octets are.
 #[cycle(pieces)]
 fn push_pieces(depth: usize, content: &[u8], joined: &mut Vec<u8>) -> Result<(), Error>
-    ensures { Joins (ArePieces depth content.now) joined.old.items joined.new.items result }
+    ensures { AppendsSuch (AreStringPieces depth content.now) joined.old.items joined.new.items
+        result }
 {
     let mut rest = content;
     while !is_at_end(rest) {

@@ -2,7 +2,7 @@
 ghost use Rattle.std.specs.Prelude.{◌≡◌};
 ghost use Rattle.asn1_rs.specs.Any.{parts_of};
 ghost use Rattle.asn1_rs.specs.Checks.{is_primitive};
-ghost use Rattle.asn1_rs_profiles.specs.Joined.{JoinedGives, held_in, joined_reading, octets_in};
+ghost use Rattle.asn1_rs_profiles.specs.Joined.{JoinedGives, held_in, joined_reading, octets_of_joined};
 ghost use Rattle.asn1_rs_profiles.specs.Joined.Lawful.{joined_equal, joined_exact, joined_written};
 
 use crate::joined::pieces::joined_octets;
@@ -61,7 +61,7 @@ impl DerElement for Joined<'_, OctetKind> {
 }
 
 impl<K: JoinedKind> WritesOctets for Joined<'_, K> {
-    ghost held = { octets_in };
+    ghost held = { octets_of_joined };
 
     fn contents_octets(&self) -> &[u8] {
         self.as_bytes()

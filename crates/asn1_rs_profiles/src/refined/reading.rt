@@ -1,5 +1,5 @@
 //! How subtypes are read: as their type, and then the property is tested.
-ghost use Rattle.asn1_rs_profiles.specs.Refined.{IsOutside, RefinedReads, RefinedTakes};
+ghost use Rattle.asn1_rs_profiles.specs.Refined.{IsOutside, RefinedReads, RefinedConverts};
 
 use crate::refined::{Property, Refined, RefinedKind};
 use asn1_rs::author::{CheckBy, FromAnyBy, FromDerBy, HasKind, HasReader};
@@ -27,7 +27,7 @@ where
 {
     type Refusal = E;
 
-    ghost gives_by_kind = { RefinedTakes (λ x. x.value) P.keeps (IsOutside T.TAG) E.from_gives
+    ghost gives_by_kind = { RefinedConverts (λ x. x.value) P.keeps (IsOutside T.TAG) E.from_gives
         T.any_gives };
 
     fn convert_by_kind(alloc: Global, any: Any<'a>) -> Result<Refined<T, P>, E> {

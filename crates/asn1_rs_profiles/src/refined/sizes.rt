@@ -1,8 +1,8 @@
 //! Sizes of octet strings, of strings of characters, and of lists.
 ghost use Rattle.std.specs.Prelude.{◌≡◌, ℕ, chars, leb, length, string_bytes};
-ghost use Rattle.asn1_rs.specs.OctetString.{octets_of};
+ghost use Rattle.asn1_rs.specs.OctetString.{string_octets};
 ghost use Rattle.asn1_rs.specs.Sequence.SequenceOf.{sequence_items};
-ghost use Rattle.asn1_rs.specs.Strings.{text_of};
+ghost use Rattle.asn1_rs.specs.Strings.{string_text};
 ghost use Rattle.asn1_rs_profiles.specs.Refined.Ready.{goes_by, is_between, one_length, same_count};
 ghost use Rattle.asn1_rs_profiles.specs.Refined.Ready.{same_length};
 
@@ -66,7 +66,7 @@ impl<T: LawfulMeasured, const LEAST: usize> LawfulProperty<T> for AtLeast<LEAST>
 }
 
 impl Measured for OctetString<'_> {
-    ghost size = { λ x. length (octets_of x) };
+    ghost size = { λ x. length (string_octets x) };
 
     fn size(&self) -> usize {
         self.as_bytes().len()
@@ -89,7 +89,7 @@ fn characters_in(text: &str) -> usize
 }
 
 impl<K, F> Measured for RestrictedString<'_, K, F> {
-    ghost size = { λ x. length (chars (text_of x)) };
+    ghost size = { λ x. length (chars (string_text x)) };
 
     fn size(&self) -> usize {
         characters_in(self.as_str())
@@ -129,7 +129,7 @@ impl<T> Measured for SequenceOf<T> {
 }
 
 impl LawfulMeasured for OctetString<'_> {
-    ghost one_size = { same_length octets_of };
+    ghost one_size = { same_length string_octets };
 }
 
 impl LawfulMeasured for &[u8] {
@@ -137,11 +137,11 @@ impl LawfulMeasured for &[u8] {
 }
 
 impl<K: StringKind<Characters: Repertoire>> LawfulMeasured for RestrictedString<'_, K, InPlace> {
-    ghost one_size = { one_length text_of };
+    ghost one_size = { one_length string_text };
 }
 
 impl<K: StringKind<Characters: CharacterCode>> LawfulMeasured for RestrictedString<'_, K, Coded> {
-    ghost one_size = { one_length text_of };
+    ghost one_size = { one_length string_text };
 }
 
 impl LawfulMeasured for &str {

@@ -1,5 +1,5 @@
 //! How subtypes are written: as their type.
-ghost use Rattle.asn1_rs.specs.ToDer.{held_writing};
+ghost use Rattle.asn1_rs.specs.ToDer.{inner_writing};
 
 use crate::refined::{Property, Refined};
 use asn1_rs::{DerBuffer, DerWrite, Error, SerializeResult, Tag, Tagged, ToDer};
@@ -14,7 +14,7 @@ impl<T: Tagged, P: Property<T>> Tagged for Refined<T, P> {
 
 /// The value is written.
 impl<T: ToDer + Tagged, P: Property<T>> ToDer for Refined<T, P> {
-    ghost writing = { held_writing (λ x. x.value) T.writing };
+    ghost writing = { inner_writing (λ x. x.value) T.writing };
 
     fn to_der_len(&self) -> Result<usize, Error> {
         self.value.to_der_len()

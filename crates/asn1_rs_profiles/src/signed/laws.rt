@@ -1,10 +1,12 @@
 //! The laws of such values, from those of the value that was read.
 ghost use Rattle.std.specs.Prelude.{◌≡◌, ℕ, List};
 ghost use Rattle.asn1_rs.specs.Structs.{is_one_of};
-ghost use Rattle.asn1_rs_profiles.specs.Signed.{SignedReads, SignedTakes, SignedWord};
+ghost use Rattle.asn1_rs_profiles.specs.Signed.{SignedReads, SignedConverts, SignedWord};
 ghost use Rattle.asn1_rs_profiles.specs.declared.signed.Signed.{Signed};
-ghost use Rattle.asn1_rs_profiles.specs.Signed.Held.{element_in, octets_in, said_in, signed, type_signed, value_in};
-ghost use Rattle.asn1_rs_profiles.specs.Signed.Laws.{signed_exact, signed_lawful, signed_no_memory, signed_takes, signed_takes_no_memory, signed_written};
+ghost use Rattle.asn1_rs_profiles.specs.Signed.Held.{element_in, octets_in, said_in, grammar_of_signed, type_signed};
+ghost use Rattle.asn1_rs_profiles.specs.Signed.Held.{value_in};
+ghost use Rattle.asn1_rs_profiles.specs.Signed.Laws.{signed_exact, signed_grammar_lawful, signed_no_memory};
+ghost use Rattle.asn1_rs_profiles.specs.Signed.Laws.{signed_takes, signed_takes_no_memory, signed_written};
 
 use crate::signed::Signed;
 use asn1_rs::author::{LawfulType, ToldByNumber};
@@ -12,11 +14,11 @@ use asn1_rs::laws::{Grammar, LawfulBody, LawfulCheck, LawfulDer, LawfulItem, Law
 use asn1_rs::{Error, Tag};
 
 impl<T: Grammar> Grammar for Signed<'_, T> {
-    ghost grammar = { signed T.grammar };
+    ghost grammar = { grammar_of_signed T.grammar };
 }
 
 impl<T: LawfulItem> LawfulItem for Signed<'_, T> {
-    ghost lawful_item = { signed_lawful element_in value_in T.grammar T.lawful_item };
+    ghost lawful_item = { signed_grammar_lawful element_in value_in T.grammar T.lawful_item };
 
     fn has_value(&self) {
         self.element.has_value();
@@ -37,7 +39,7 @@ impl<'a, T: LawfulBody<'a, Error> + Drop> LawfulBody<'a, Error> for Signed<'a, T
         signed_takes element_in value_in T.grammar T.any_gives any
         (λ given. T.body_exact any given octets) answer };
 
-    ghost body_no_memory = { λ none. signed_takes_no_memory none (SignedTakes element_in value_in T.any_gives) };
+    ghost body_no_memory = { λ none. signed_takes_no_memory none (SignedConverts element_in value_in T.any_gives) };
 }
 
 impl<T: LawfulCheck> LawfulCheck for Signed<'_, T> {

@@ -4,7 +4,7 @@ ghost use Rattle.asn1_headers.specs.Answers.{seen};
 ghost use Rattle.asn1_rs.specs.Any.{DerElementGives, parts_of};
 ghost use Rattle.asn1_rs.specs.Any.Writing.{element_writing};
 ghost use Rattle.asn1_rs.specs.ToDer.{whole_octets};
-ghost use Rattle.asn1_rs_profiles.specs.Signed.{SignedReads, SignedTakes};
+ghost use Rattle.asn1_rs_profiles.specs.Signed.{SignedReads, SignedConverts};
 ghost use Rattle.asn1_rs_profiles.specs.Signed.Held.{element_in, value_in};
 
 use crate::signed::Signed;
@@ -74,7 +74,7 @@ fn same_element<'a>(any: &Any<'a>) -> Any<'a>
 impl<'a, T: FromAny<'a, Error = Error> + Drop> FromAny<'a> for Signed<'a, T> {
     type Error = Error;
 
-    ghost any_gives = { SignedTakes element_in value_in T.any_gives };
+    ghost any_gives = { SignedConverts element_in value_in T.any_gives };
 
     fn try_from_any(alloc: Global, any: Any<'a>) -> Result<Signed<'a, T>, Error> {
         let element = same_element(&any);

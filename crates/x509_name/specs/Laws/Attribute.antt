@@ -20,7 +20,8 @@ use Rattle.asn1_rs.specs.Laws.Lists.{strict_word_octets, strict_word_one}
 use Rattle.asn1_rs.specs.Laws.Oid.{oid_lawful, oid_value_set}
 use Rattle.asn1_rs.specs.Laws.Words.{one_strict}
 use Rattle.asn1_rs.specs.Oid.{OidValue, oid_element}
-use Rattle.x509_name.specs.Attribute.{AreTwo, AttributeBody, AttributeContent, AttributeValue, AttributeValue-set}
+use Rattle.x509_name.specs.Attribute.{ArePairOfWords, AttributeBody, AttributeContent, AttributeValue}
+use Rattle.x509_name.specs.Attribute.{AttributeValue-set}
 use Rattle.x509_name.specs.Attribute.{any_item, attribute_element, attribute_item, oid_item}
 
 -- The two parts are lawful.
@@ -32,7 +33,7 @@ any_item_lawful = lawful_item any_element element_lawful
 
 -- Two words, of each grammar one, have one value each.
 pub two_one : {V W : Type 0} (F : List ℕ → V → Type 0) (G : List ℕ → W → Type 0) → IsPrefixFree F → IsPrefixFree G →
-    (o : List ℕ) (v x : V) (w y : W) → AreTwo F G o v w → AreTwo F G o x y → (v ≡ x) × (w ≡ y)
+    (o : List ℕ) (v x : V) (w y : W) → ArePairOfWords F G o v w → ArePairOfWords F G o x y → (v ≡ x) × (w ≡ y)
 two_one F G f g o v x w y a b =
     let e : a.front ++ a.behind ≡ b.front ++ b.behind = sym a.joined ∙ b.joined in
     let s = f.one a.front b.front a.behind b.behind v x a.first b.first e in
@@ -77,7 +78,8 @@ content_octets v c a = subst IsOctets (sym a.joined)
     (strict_word_octets any_element.Form a.behind v.value a.second))
 
 -- Strict contents octets hold the two parts by DER.
-content_parts : (v : AttributeValue) (c : List ℕ) → AttributeContent v c → AreTwo oid_item.Der any_item.Der c v.oid
+content_parts : (v : AttributeValue) (c : List ℕ) → AttributeContent v c →
+    ArePairOfWords oid_item.Der any_item.Der c v.oid
     v.value
 content_parts v c a = record {
   front = a.front;

@@ -6,8 +6,8 @@ use Rattle.x690.specs.Elements.{IsDerElement}
 use Rattle.x690.specs.Faults.{DerElementFault}
 use Rattle.x690.specs.Identifiers.{Identifier, IsTruncatedIdentifier}
 use Rattle.x690.specs.Joined.{IsPrefixFree}
-use Rattle.asn1_headers.specs.Answers.{Exactly, Front, IsOther, TellsMemory}
-use Rattle.asn1_headers.specs.Error.{HeldIn}
+use Rattle.asn1_headers.specs.Answers.{Exactly, HasPrefix, IsOther, TellsMemory}
+use Rattle.asn1_headers.specs.Error.{ErrorIs}
 use Rattle.asn1_headers.specs.Header.Reading.{der_violation}
 use Rattle.asn1_headers.specs.declared.error.Err.{Err as Refusal}
 use Rattle.asn1_headers.specs.declared.error.Error.{Error}
@@ -19,11 +19,12 @@ use Rattle.asn1_rs.specs.Laws.Kinds.{other_error}
 use Rattle.asn1_rs.specs.Laws.Lists.{constructed_checks}
 use Rattle.asn1_rs.specs.Laws.Oid.{oid_checked, oid_converts}
 use Rattle.asn1_rs.specs.Laws.Readers.{der_violation_no_memory, der_elements, element_exact, element_no_memory}
-use Rattle.asn1_rs.specs.Laws.Readers.{front_more, none_now}
+use Rattle.asn1_rs.specs.Laws.Readers.{prefix_more, none_now}
 use Rattle.asn1_rs.specs.Oid.{OidGives, oid_constraints, oid_element, oid_value}
 use Rattle.asn1_rs.specs.declared.asn1_types.any.Any.{Any}
 use Rattle.asn1_rs.specs.declared.asn1_types.oid.Oid.{Oid}
-use Rattle.x509_name.specs.Attribute.{AnyReads, AreTwo, AttributeGives, AttributeValue, OidReads, PartsGive, any_item}
+use Rattle.x509_name.specs.Attribute.{AnyReads, ArePairOfWords, AttributeGives, AttributeValue, OidReads, PartsGive}
+use Rattle.x509_name.specs.Attribute.{any_item}
 use Rattle.x509_name.specs.Attribute.{attribute_item, attribute_value, oid_item}
 use Rattle.x509_name.specs.Laws.Attribute.{any_item_lawful, oid_item_lawful}
 use Rattle.x509_name.specs.declared.attribute.AttributeTypeAndValue.{AttributeTypeAndValue}
@@ -33,8 +34,8 @@ abbrev pub itself : Error → Error → Type 0
 itself x y = y ≡ x
 
 -- no refusal reports out of memory
-abbrev pub NoMemory : Refusal Error → Type 0
-NoMemory = TellsMemory false itself
+abbrev pub NeverOutOfMemory : Refusal Error → Type 0
+NeverOutOfMemory = TellsMemory false itself
 
 -- What allocates nothing does not.
 untold : {A : Type 0} → IsTrue false → A
@@ -42,21 +43,21 @@ untold m = cc
 
 -- The readers of the two parts are exact.
 pub oid_exact : (input : List ℕ) (answer : Result (List ℕ × Oid) (Refusal Error)) → OidReads input answer →
-    Exactly IsTruncatedIdentifier oid_item.Der oid_value NoMemory input answer
+    Exactly IsTruncatedIdentifier oid_item.Der oid_value NeverOutOfMemory input answer
 oid_exact = element_exact IsDerElement DerElementFault IsTruncatedIdentifier der_elements der_violation oid_constraints OidGives
     itself oid_element.Check oid_element.Body oid_value false oid_item.Der oid_checked.exact oid_converts.exact
     (λ o v w. w) (λ o v w. w)
 
 pub any_exact : (input : List ℕ) (answer : Result (List ℕ × Any) (Refusal Error)) → AnyReads input answer →
-    Exactly IsTruncatedIdentifier any_item.Der element_of NoMemory input answer
+    Exactly IsTruncatedIdentifier any_item.Der element_of NeverOutOfMemory input answer
 any_exact = element_exact IsDerElement DerElementFault IsTruncatedIdentifier der_elements der_violation IsDefiniteOr IsTheElement
     itself any_element.Check any_element.Body element_of false any_item.Der element_checks.exact element_converts.exact
     (λ o v w. w) (λ o v w. w)
 
 -- Where a word begins the input, each word that begins it has its value and its rest.
-pub same_front : {V : Type 0} (G : List ℕ → V → Type 0) → IsPrefixFree G → (input : List ℕ) (v : V) (rest : List ℕ) →
-    Front G input v rest → (word more : List ℕ) (w : V) → G word w → input ≡ word ++ more → (v ≡ w) × (rest ≡ more)
-same_front G one input v rest f word more w g e =
+pub same_word : {V : Type 0} (G : List ℕ → V → Type 0) → IsPrefixFree G → (input : List ℕ) (v : V) (rest : List ℕ) →
+    HasPrefix G input v rest → (word more : List ℕ) (w : V) → G word w → input ≡ word ++ more → (v ≡ w) × (rest ≡ more)
+same_word G one input v rest f word more w g e =
     let s = one.one f.word word rest more v w f.fits g (sym f.is ∙ e) in (
       s.1,
       append_cancel_left f.word rest more (sym f.is ∙ e ∙ ap (λ (z : List ℕ). z ++ more) (sym s.0)),
@@ -64,10 +65,10 @@ same_front G one input v rest f word more w g e =
 
 -- Contents octets that were read are the two parts.
 parts_read : (content : List ℕ) (a : AttributeTypeAndValue) → PartsGive content (Ok a) →
-    AreTwo oid_item.Der any_item.Der content (oid_value a.oid) (element_of a.value)
+    ArePairOfWords oid_item.Der any_item.Der content (oid_value a.oid) (element_of a.value)
 parts_read content a g =
-    let first : Front oid_item.Der content (oid_value a.oid) g.0 = oid_exact content (Ok (g.0, a.oid)) g.1 in
-    let second : Front any_item.Der g.0 (element_of a.value) [] = any_exact g.0 (Ok ([], a.value)) g.2 in
+    let first : HasPrefix oid_item.Der content (oid_value a.oid) g.0 = oid_exact content (Ok (g.0, a.oid)) g.1 in
+    let second : HasPrefix any_item.Der g.0 (element_of a.value) [] = any_exact g.0 (Ok ([], a.value)) g.2 in
     record {
       front = first.word;
       behind = second.word;
@@ -78,14 +79,14 @@ parts_read content a g =
 
 -- Contents octets that are refused are no two parts.
 parts_none : (content : List ℕ) (r : Refusal Error) → PartsGive content (Err r) → (v : AttributeValue) →
-    AreTwo oid_item.Der any_item.Der content v.oid v.value → ⊥
+    ArePairOfWords oid_item.Der any_item.Der content v.oid v.value → ⊥
 parts_none content r (inl g) v t = elim (oid_exact content (Err r) g) [
   | inl m ↦ untold m.0
   | inr f ↦ none_now (IsTruncatedIdentifier content) r oid_item.Der content f t.front t.behind v.oid t.joined t.first
 ]
 parts_none content r (inr (behind, oid, read, later)) v t =
-    let front : Front oid_item.Der content (oid_value oid) behind = oid_exact content (Ok (behind, oid)) read in
-    let same = same_front oid_item.Der oid_item_lawful.der_one content (oid_value oid) behind front t.front t.behind
+    let front : HasPrefix oid_item.Der content (oid_value oid) behind = oid_exact content (Ok (behind, oid)) read in
+    let same = same_word oid_item.Der oid_item_lawful.der_one content (oid_value oid) behind front t.front t.behind
     v.oid
     t.first t.joined in
     let is : behind ≡ t.behind ++ [] = same.1 ∙ sym (append-nil t.behind) in
@@ -95,8 +96,8 @@ parts_none content r (inr (behind, oid, read, later)) v t =
         | inr f ↦ none_now (IsTruncatedIdentifier behind) r any_item.Der behind f t.behind [] v.value is t.second
       ]
       | inr h ↦
-          let value : Front any_item.Der behind (element_of h.1) h.0 = any_exact behind (Ok (h.0, h.1)) h.2 in
-          h.3 (same_front any_item.Der any_item_lawful.der_one behind (element_of h.1) h.0 value t.behind [] v.value
+          let value : HasPrefix any_item.Der behind (element_of h.1) h.0 = any_exact behind (Ok (h.0, h.1)) h.2 in
+          h.3 (same_word any_item.Der any_item_lawful.der_one behind (element_of h.1) h.0 value t.behind [] v.value
           t.second is).1
     ]
 
@@ -110,18 +111,19 @@ same_element : (input : List ℕ) (any : Any) (rest more : List ℕ) → AnyRead
     (word tail : List ℕ) (v : AttributeValue) (w : attribute_item.Der word v) → input ++ more ≡ word ++ tail →
     (identifier_is : (parts_of any).id ≡ w.0.id) × (any.content.now ≡ w.0.content)
 same_element input any rest more g word tail v w e =
-    let front : Front any_item.Der input (element_of any) rest = any_exact input (Ok (rest, any)) g in
-    let same = (same_front any_item.Der any_item_lawful.der_one (input ++ more) (element_of any) (rest ++ more)
-    (front_more any_item.Der input (element_of any) rest more front) word tail
+    let front : HasPrefix any_item.Der input (element_of any) rest = any_exact input (Ok (rest, any)) g in
+    let same = (same_word any_item.Der any_item_lawful.der_one (input ++ more) (element_of any) (rest ++ more)
+    (prefix_more any_item.Der input (element_of any) rest more front) word tail
     (record { id = w.0.id; content = w.0.content }) (any_word word v w) e).0 in
     (ap (λ (z : ElementValue). z.id) same, ap (λ (z : ElementValue). z.content) same)
 
 -- Reading an attribute is exact.
 pub attribute_exact : (input : List ℕ) (answer : Result (List ℕ × AttributeTypeAndValue) (Refusal Error)) →
-    AttributeGives input answer → Exactly IsTruncatedIdentifier attribute_item.Der attribute_value NoMemory input answer
+    AttributeGives input answer → Exactly IsTruncatedIdentifier attribute_item.Der attribute_value NeverOutOfMemory
+    input answer
 attribute_exact input (Ok x) g =
     let any = g.0 in
-    let front : Front any_item.Der input (element_of any) x.0 = any_exact input (Ok (x.0, any)) g.1 in
+    let front : HasPrefix any_item.Der input (element_of any) x.0 = any_exact input (Ok (x.0, any)) g.1 in
     let p = front.fits.0 in
     let id : (parts_of any).id ≡ p.id = ap (λ (z : ElementValue). z.id) front.fits.3 in
     let content : any.content.now ≡ p.content = ap (λ (z : ElementValue). z.content) front.fits.3 in
@@ -138,7 +140,9 @@ attribute_exact input (Ok x) g =
             sym (ap (λ (z : Identifier). z.number) id) ∙ shape.0,
             sym (ap (λ (z : Identifier). z.constructed) id) ∙ shape.1,
           );
-          parts = subst (λ (c : List ℕ). AreTwo oid_item.Der any_item.Der c (oid_value x.1.oid) (element_of x.1.value))
+          parts =
+              subst (λ (c : List ℕ). ArePairOfWords oid_item.Der any_item.Der c (oid_value x.1.oid)
+              (element_of x.1.value))
               content (parts_read any.content.now x.1 g.3);
         },
       );
@@ -157,13 +161,13 @@ attribute_exact input (Err r) (inr (any, rest, g, inl (e, check, is))) = inr (λ
 attribute_exact input (Err r) (inr (any, rest, g, inr (check, parts))) = inr (λ more s word tail v at w.
     let same = same_element input any rest more g word tail v w at in
     parts_none any.content.now r parts v
-    (subst (λ (c : List ℕ). AreTwo oid_item.Der any_item.Der c v.oid v.value) (sym same.1) w.3.parts))
+    (subst (λ (c : List ℕ). ArePairOfWords oid_item.Der any_item.Der c v.oid v.value) (sym same.1) w.3.parts))
 
 -- No refusal reports out of memory.
 
 -- the error of a refusal is not out of memory
 abbrev pub IsNoMemory : Refusal Error → Type 0
-IsNoMemory = HeldIn (IsOther itself)
+IsNoMemory = ErrorIs (IsOther itself)
 
 oid_other : (input : List ℕ) (r : Refusal Error) → OidReads input (Err r) → IsNoMemory r
 oid_other input r g = element_no_memory IsDerElement DerElementFault der_violation der_violation_no_memory oid_constraints

@@ -18,11 +18,11 @@ use Rattle.asn1_rs.specs.Laws.Set.{body_seen, set_fits, set_form_values, set_one
 use Rattle.asn1_rs.specs.Lists.{StrictWord}
 use Rattle.x509_name.specs.Attribute.{attribute_element, attribute_item}
 use Rattle.x509_name.specs.Laws.Attribute.{attribute_item_lawful, attribute_lawful}
-use Rattle.x509_name.specs.RelativeName.{IsSome, IsSomeSet, relative_name_element, relative_name_item}
+use Rattle.x509_name.specs.RelativeName.{IsNonEmpty, IsSomeSet, relative_name_element, relative_name_item}
 
 -- Joined words of some values are some octets.
 pub some_joined : {V : Type 0} (G : List ℕ → V → Type 0) → IsPrefixFree G → (octets : List ℕ) (vs : List V) →
-    IsConcatenation G octets vs → IsSome vs → octets ≢ []
+    IsConcatenation G octets vs → IsNonEmpty vs → octets ≢ []
 some_joined G one octets [] j some e = some refl
 some_joined G one octets (v ∷ vs) j some e = one.some v (subst (λ (o : List ℕ). G o v) (nothing j.0 j.1 (sym j.3 ∙
     e)) j.2)
@@ -32,7 +32,7 @@ some_joined G one octets (v ∷ vs) j some e = one.some v (subst (λ (o : List �
     nothing (x ∷ a) b e = cc
 
 -- A permutation of some values are some values.
-pub some_moved : {V : Type 0} (vs ws : List V) → IsPermutation vs ws → IsSome vs → IsSome ws
+pub some_moved : {V : Type 0} (vs ws : List V) → IsPermutation vs ws → IsNonEmpty vs → IsNonEmpty ws
 some_moved [] ws p some e = some refl
 some_moved (v ∷ vs) ws p some e =
     let l : length ws ≡ length (v ∷ vs) = length_permutation (v ∷ vs) ws p in
@@ -46,7 +46,7 @@ form_body m i c f =
     let items : IsConcatenation attribute_item.Der c f.1.items =
     joined_map (StrictWord attribute_element.Form) attribute_item.Der (λ o v s. attribute_item_lawful.strict_der v o
     s) c
-    f.1.items (joins_joined multiset IsSome (IsStrict attribute_element.Form) m c f.1) in (
+    f.1.items (joins_joined multiset IsNonEmpty (IsStrict attribute_element.Form) m c f.1) in (
       f.1.items,
       f.1.are,
       record {
@@ -67,13 +67,13 @@ relative_name_lawful = record {
     b.1,
     list_body_values IsSomeSet attribute_item.Der attribute_element.IsValue attribute_item_lawful.der_values p b.0 b.2,
   );
-  form_values = set_form_values multiset IsSome attribute_element.Form attribute_element.IsValue
+  form_values = set_form_values multiset IsNonEmpty attribute_element.Form attribute_element.IsValue
       attribute_lawful.form_values;
   body_one = body_seen multiset _ (list_body_one attribute_item.Der attribute_item_lawful.der_one IsSomeSet);
-  one_form = set_one_form multiset IsSome attribute_element.Form (λ vs ws h k e. permutation_from_multiset vs ws e)
+  one_form = set_one_form multiset IsNonEmpty attribute_element.Form (λ vs ws h k e. permutation_from_multiset vs ws e)
       attribute_lawful.one_form;
-  one_value = set_one_value multiset IsSome attribute_element.Form attribute_lawful.one_value;
-  form_fits = set_fits multiset IsSome attribute_element.Form;
+  one_value = set_one_value multiset IsNonEmpty attribute_element.Form attribute_lawful.one_value;
+  form_fits = set_fits multiset IsNonEmpty attribute_element.Form;
   form_check = λ m i c f. tt;
   form_der = λ m i c f. (
     f.1.items,
@@ -81,7 +81,7 @@ relative_name_lawful = record {
     f.1.are,
     joined_values (StrictWord attribute_element.Form) attribute_element.IsDer
         (λ o v s. attribute_lawful.form_der v s.id s.content s.form) c f.1.items
-        (joins_joined multiset IsSome (IsStrict attribute_element.Form) m c f.1),
+        (joins_joined multiset IsNonEmpty (IsStrict attribute_element.Form) m c f.1),
   );
   form_body = form_body;
 }

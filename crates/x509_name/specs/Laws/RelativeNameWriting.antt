@@ -14,18 +14,18 @@ use Rattle.x509_name.specs.Laws.Attribute.{attribute_item_lawful}
 use Rattle.x509_name.specs.Laws.RelativeName.{relative_name_item_lawful, some_moved}
 use Rattle.x509_name.specs.Laws.Writing.{attribute_lawful_writing}
 use Rattle.x509_name.specs.Name.{name_item, name_writing, relative_names}
-use Rattle.x509_name.specs.RelativeName.{IsSome, attributes, listed_values, relative_name_item, relative_name_value}
+use Rattle.x509_name.specs.RelativeName.{IsNonEmpty, attributes, listed_values, relative_name_item, relative_name_value}
 use Rattle.x509_name.specs.RelativeName.{relative_name_writing}
 use Rattle.x509_name.specs.declared.relative_name.RelativeDistinguishedName.{RelativeDistinguishedName}
 
 -- A relative name with the multiset of some values has some attributes.
 some_attributes : (x : RelativeDistinguishedName) (vs : List AttributeValue) → multiset vs ≡ relative_name_value x →
-    IsSome vs → IsSome (attributes x)
+    IsNonEmpty vs → IsNonEmpty (attributes x)
 some_attributes x vs e h none = ∥∥₁_elim (permutation_from_multiset vs (listed_values x) e) ⊥_prop
     (λ p. some_moved vs (listed_values x) p h (ap (map attribute_value) none))
 
 -- One with some attributes has no refusal of its own.
-some_writable : (x : RelativeDistinguishedName) → IsSome (attributes x) → IsWritable relative_name_writing x
+some_writable : (x : RelativeDistinguishedName) → IsNonEmpty (attributes x) → IsWritable relative_name_writing x
 some_writable x h = (λ e o. h o.0, λ e r. h r.1.0, λ e r. h r.1.0)
 
 -- What is written for relative names is lawful.
@@ -36,10 +36,10 @@ relative_name_lawful_writing = record {
       (permutation_from_multiset (listed_values x) (listed_values y) e);
   form = λ x i c f.
       let h = set_writes_form attribute_value attribute_element.Form attribute_writing attribute_lawful_writing.form
-      multiset IsSome (attributes x) c (relative_name_value x) f.1
+      multiset IsNonEmpty (attributes x) c (relative_name_value x) f.1
       (permutation_from_multiset f.1.items (listed_values x) f.1.are) i f.0 in
       (some_writable x (some_attributes x f.1.items f.1.are f.1.once), h.1, h.2, h.3);
-  der_form = λ x d l. set_has_form multiset IsSome some_moved same_multiset attribute_value attribute_element.IsDer
+  der_form = λ x d l. set_has_form multiset IsNonEmpty some_moved same_multiset attribute_value attribute_element.IsDer
       attribute_element.Form attribute_octets
       (der_written attribute_item attribute_writing attribute_item_lawful attribute_lawful_writing) (attributes x)
       (relative_name_value x) d (permutation_from_multiset d.0 (listed_values x) d.2) l;

@@ -6,7 +6,7 @@ use Rattle.x690.specs.Strict.{header_octets}
 use Rattle.asn1_rs.specs.Any.Value.{any_element, element_of}
 use Rattle.asn1_rs.specs.Any.Writing.{element_writing}
 use Rattle.asn1_rs.specs.Grammar.{FormNumber}
-use Rattle.asn1_rs.specs.Grammar.Form.{header_of, universal}
+use Rattle.asn1_rs.specs.Grammar.Form.{header_of, of_universal_class}
 use Rattle.asn1_rs.specs.Grammar.Item.{IsLawfulWriting}
 use Rattle.asn1_rs.specs.Laws.Any.Writing.{element_lawful_writing}
 use Rattle.asn1_rs.specs.Laws.Forms.{both_by_value, nothing_refused, strict_written}
@@ -70,7 +70,7 @@ attribute_lawful_writing = record {
         )))
         ∥∥₁_prop (λ s. ∥∥₁_map (der_written any_item element_writing any_item_lawful element_lawful_writing x.value d.1
         (omega (arith, both, l))) (λ t. (
-          universal true 16,
+          of_universal_class true 16,
           (refl, record { front = o; behind = a; first = s; second = t; joined = refl }),
         )))
 

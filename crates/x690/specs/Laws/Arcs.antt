@@ -75,23 +75,25 @@ pieces_joined [] = refl
 pieces_joined (octet ∷ octets) = joined_more octet octets (pieces_joined octets) (cases_lt octet 128)
 
 -- no piece is empty
-abbrev pub IsSome : List ℕ → Type 0
-IsSome piece = piece ≢ []
+abbrev pub IsNonEmptyPiece : List ℕ → Type 0
+IsNonEmptyPiece piece = piece ≢ []
 
-some_in_front : (octet : ℕ) (pieces : List (List ℕ)) → All IsSome pieces → All IsSome (in_front octet pieces)
-some_in_front octet [] a = All-cons IsSome (octet ∷ []) [] (λ e. cc) (All-nil IsSome)
+some_in_front : (octet : ℕ) (pieces : List (List ℕ)) → All IsNonEmptyPiece pieces →
+    All IsNonEmptyPiece (in_front octet pieces)
+some_in_front octet [] a = All-cons IsNonEmptyPiece (octet ∷ []) [] (λ e. cc) (All-nil IsNonEmptyPiece)
 some_in_front octet (piece ∷ pieces) a =
-    All-cons IsSome (octet ∷ piece) pieces (λ e. cc) (λ k d h. a (suc k) d (omega arith))
+    All-cons IsNonEmptyPiece (octet ∷ piece) pieces (λ e. cc) (λ k d h. a (suc k) d (omega arith))
 
-some_more : (octet : ℕ) (octets : List ℕ) → All IsSome (pieces_of octets) → (octet < 128) ⊎ (128 ≤ octet) →
-    All IsSome (pieces_of (octet ∷ octets))
+some_more : (octet : ℕ) (octets : List ℕ) → All IsNonEmptyPiece (pieces_of octets) → (octet < 128) ⊎ (128 ≤ octet) →
+    All IsNonEmptyPiece (pieces_of (octet ∷ octets))
 some_more octet octets a (inl h) =
-    subst (All IsSome) (sym (last_piece octet octets h)) (All-cons IsSome (octet ∷ []) (pieces_of octets) (λ e. cc) a)
+    subst (All IsNonEmptyPiece) (sym (last_piece octet octets h))
+    (All-cons IsNonEmptyPiece (octet ∷ []) (pieces_of octets) (λ e. cc) a)
 some_more octet octets a (inr h) =
-    subst (All IsSome) (sym (more_piece octet octets h)) (some_in_front octet (pieces_of octets) a)
+    subst (All IsNonEmptyPiece) (sym (more_piece octet octets h)) (some_in_front octet (pieces_of octets) a)
 
-pub pieces_some : (content : List ℕ) → All IsSome (pieces_of content)
-pieces_some [] = All-nil IsSome
+pub pieces_some : (content : List ℕ) → All IsNonEmptyPiece (pieces_of content)
+pieces_some [] = All-nil IsNonEmptyPiece
 pieces_some (octet ∷ octets) = some_more octet octets (pieces_some octets) (cases_lt octet 128)
 
 -- Subidentifiers.
@@ -144,12 +146,12 @@ subidentifiers_shortest (n ∷ ns) =
     (All-cons IsShortestPiece (tag_digits n) (pieces_of (subidentifier_octets ns)) (tag_digits_shortest n)
     (subidentifiers_shortest ns))
 
-digits_few : (piece : List ℕ) → IsSome piece → length (tag_digits (base_128_value piece)) ≤ length piece
+digits_few : (piece : List ℕ) → IsNonEmptyPiece piece → length (tag_digits (base_128_value piece)) ≤ length piece
 digits_few [] s = absurd (s refl)
 digits_few (digit ∷ digits) s =
     tag_digits_few (base_128_value (digit ∷ digits)) (length digits) (value_lt (digit ∷ digits))
 
-pieces_few : (pieces : List (List ℕ)) → All IsSome pieces →
+pieces_few : (pieces : List (List ℕ)) → All IsNonEmptyPiece pieces →
     length (subidentifier_octets (map base_128_value pieces)) ≤ length (concat pieces)
 pieces_few [] s = omega arith
 pieces_few (piece ∷ pieces) s =

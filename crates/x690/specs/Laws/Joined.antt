@@ -37,11 +37,11 @@ joined_one G one (v ∷ vs) c d i j =
 
 module _ {V : Type 0} (G : List ℕ → V → Type 0) where
   -- the words of a joining
-  pub words_of : (c : List ℕ) (vs : List V) → IsConcatenation G c vs →
+  pub concatenated_words : (c : List ℕ) (vs : List V) → IsConcatenation G c vs →
       (words : List (List ℕ)) × AllZip G words vs × (c ≡ concat words)
-  words_of c [] j = ([], tt, j)
-  words_of c (v ∷ vs) j =
-      let t = words_of j.1 vs j.4 in
+  concatenated_words c [] j = ([], tt, j)
+  concatenated_words c (v ∷ vs) j =
+      let t = concatenated_words j.1 vs j.4 in
       (j.0 ∷ t.0, (j.2, t.1), j.3 ∙ ap (λ (r : List ℕ). j.0 ++ r) t.2)
 
   -- Words in turn, joined, are joined words of their values.
@@ -56,7 +56,7 @@ module _ {V : Type 0} (G : List ℕ → V → Type 0) where
   pub joined_words : (c : List ℕ) (vs : List V) → IsConcatenation G c vs →
       (words : List (List ℕ)) × BeginsWithWords G c words vs []
   joined_words c vs j =
-      let t = words_of c vs j in
+      let t = concatenated_words c vs j in
       (t.0, record { each = t.1; is = t.2 ∙ sym (append-nil (concat t.0)) })
 
   -- Words that leave nothing are joined words.
@@ -145,8 +145,8 @@ module _ {V : Type 0} (G : List ℕ → V → Type 0) (one : IsPrefixFree G) whe
   -- octets are joined of words with one row of values
   pub joined_same : (c d : List ℕ) (vs ws : List V) → c ≡ d → IsConcatenation G c vs → IsConcatenation G d ws → vs ≡ ws
   joined_same c d vs ws e i j =
-      let a = words_of G c vs i in
-      let b = words_of G d ws j in
+      let a = concatenated_words G c vs i in
+      let b = concatenated_words G d ws j in
       (last_words a.0 b.0 vs ws [] [] a.1 b.1
       (ap (λ (o : List ℕ). o ++ []) (sym a.2 ∙ e ∙ b.2)) no_front_of_nothing no_front_of_nothing).1
 
@@ -154,8 +154,8 @@ module _ {V : Type 0} (G : List ℕ → V → Type 0) (one : IsPrefixFree G) whe
   pub ends_unjoined : (c front others : List ℕ) (vs ws : List V) → c ≡ front ++ others → others ≢ [] →
       NoPrefix G others → IsConcatenation G front vs → IsConcatenation G c ws → ⊥
   ends_unjoined c front others vs ws e n none i j =
-      let a = words_of G front vs i in
-      let b = words_of G c ws j in
+      let a = concatenated_words G front vs i in
+      let b = concatenated_words G c ws j in
       let whole : concat a.0 ++ others ≡ concat b.0 ++ [] =
       ap (λ (o : List ℕ). o ++ others) (sym a.2) ∙ sym e ∙ b.2 ∙ sym (append-nil (concat b.0)) in
       n (last_words a.0 b.0 vs ws others [] a.1 b.1 whole none no_front_of_nothing).2

@@ -2,12 +2,12 @@ use Rattle.std.proofs.Common.{None, Some, sym, ◌∙◌}
 use Rattle.std.proofs.lemmas.Bool.Decides.{Decides-eqb}
 use Rattle.std.proofs.lemmas.Slice.Eq.{strip_prefix_is, strip_suffix_is}
 use Rattle.std.proofs.lemmas.Str.Ascii.{trim_ascii_end_is}
-use Rattle.asn1_engine.specs.Pem.{trimmed}
+use Rattle.asn1_engine.specs.Pem.{trimmed_end}
 use Rattle.asn1_engine.proofs.Boundaries.{between_is, no_front}
 use Rattle.asn1_engine.proofs.pem.between.Goals as goal
 
 pub returns-in_err-behind : goal.returns-in_err-behind
-unfolding trimmed
+unfolding trimmed_end
 returns-in_err-behind c =
     let line = c.args.line.now in
     let front = c.args.front.now in
@@ -16,7 +16,7 @@ returns-in_err-behind c =
     rw c.from_residual.ensures (no_front line front c.args.end.now (λ rest e. none rest (whole ∙ e)))
 
 pub returns : goal.returns
-unfolding trimmed
+unfolding trimmed_end
 returns c =
     let line = c.args.line.now in
     let front = c.args.front.now in

@@ -6,8 +6,8 @@ use Rattle.asn1_walk.specs.Walks.{Moves}
 use Rattle.asn1_walk.specs.declared.walk.Step.{Step}
 use Rattle.asn1_walk.proofs.Coming.{begun}
 use Rattle.asn1_engine.specs.Trees.{AreShown, IsShown, no_lines, more_lines, plain, holds, sum_within, IsRefusalLine}
-use Rattle.asn1_engine.specs.Trees.{refusal_text, IsEnd, inner_offset, inner_depth}
-use Rattle.asn1_engine.specs.Inner.{IsHeld, HoldsElements, IsNotEntered}
+use Rattle.asn1_engine.specs.Trees.{refusal_text, IsEndText, inner_offset, inner_depth}
+use Rattle.asn1_engine.specs.Inner.{AreStringOctets, HoldsElements, IsNotEntered}
 use Rattle.asn1_engine.specs.declared.trees.Part.{Part}
 use Rattle.asn1_headers.specs.Header.Reading.{ber_refusal}
 use Rattle.asn1_walk.proofs.OneRow.{ends_or_breaks}
@@ -136,9 +136,9 @@ write_element-returns-in_ok-dump_part-in-Some g n c =
     let strings : ℕ = c.args.strings - 1 in
     let some : 1 ≤ c.args.strings = subst (λ found. IfSome found (λ (part : Part). 1 ≤ c.args.strings)) c.in-Some.is c.in_ok-within.ensures.some in
     let next : suc strings ≡ c.args.strings = omega arith in
-    let h : (count : ℕ) × IsHeld line count within.octets.now × HoldsElements within.octets.now ×
+    let h : (count : ℕ) × AreStringOctets line count within.octets.now × HoldsElements within.octets.now ×
     (within.offset ≡ inner_offset line count) × (within.depth ≡ inner_depth line) =
-    subst (λ found. IfSome found (λ (part : Part). (count : ℕ) × IsHeld line count part.octets.now ×
+    subst (λ found. IfSome found (λ (part : Part). (count : ℕ) × AreStringOctets line count part.octets.now ×
     HoldsElements part.octets.now × (part.offset ≡ inner_offset line count) × (part.depth ≡ inner_depth line)))
     c.in-Some.is c.in_ok-within.ensures.held in
     let inner : options.inner ≡ true =
@@ -149,8 +149,8 @@ write_element-returns-in_ok-dump_part-in-Some g n c =
     let shown : AreShown options strings (inner_offset line h.0) (inner_depth line) tree.lines tree.shown =
     subst (λ k. AreShown options strings k (inner_depth line) tree.lines tree.shown) h.3
     (subst (λ k. AreShown options strings within.offset k tree.lines tree.shown) h.4 tree.prints) in
-    let end : IsEnd options.json (inner_offset line h.0) tree.outcome tree.end =
-    subst (λ k. IsEnd options.json k tree.outcome tree.end) h.3 tree.ends in
+    let end : IsEndText options.json (inner_offset line h.0) tree.outcome tree.end =
+    subst (λ k. IsEndText options.json k tree.outcome tree.end) h.3 tree.ends in
     let both : IsShown options (suc strings) line (e.0 ++ tree.shown ++ tree.end) =
     holds options strings line h.0 within.octets.now e.0 tree.lines tree.outcome tree.shown tree.end inner h.1 h.2 e.1
     tree.row shown end in (

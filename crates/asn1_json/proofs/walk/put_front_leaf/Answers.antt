@@ -1,18 +1,18 @@
 use Rattle.std.proofs.Common.{◌≡◌, ◌∙◌, ap, ◌<◌, List, ◌++◌, length, length-append, arith}
 use Rattle.std.proofs.lemmas.Bool.Decides.{nat_tests}
-use Rattle.asn1_schema.specs.Values.{Leaf}
+use Rattle.asn1_schema.specs.Values.{LeafValue}
 use Rattle.asn1_schema.specs.declared.tape.Item.{Item}
 use Rattle.asn1_json.specs.Leaves.{leaf_tokens}
 use Rattle.asn1_json.specs.Types.{labels_at}
-use Rattle.asn1_json.specs.Tokens.{seen}
+use Rattle.asn1_json.specs.Tokens.{given_types}
 use Rattle.asn1_json.proofs.Pieces.{some_marks}
 use Rattle.asn1_json.proofs.walk.put_front_leaf.Goals as goal
 
 pub returns-clause-tokens : goal.returns-clause-tokens
 returns-clause-tokens g c = λ kept rest l at v.
-    let labels = labels_at (seen c.args.types).names c.args.at in
+    let labels = labels_at (given_types c.args.types).names c.args.at in
     c.in_ok-put_leaf.ensures
-    ∙ ap (λ (x : Leaf). g.W.TokenWriter.written c.args.out.now ++ leaf_tokens labels x)
+    ∙ ap (λ (x : LeafValue). g.W.TokenWriter.written c.args.out.now ++ leaf_tokens labels x)
     (c.pieces_of.ensures kept l (c.split_value.ensures.value kept rest at) v)
 
 pub returns-clause-shorter : goal.returns-clause-shorter

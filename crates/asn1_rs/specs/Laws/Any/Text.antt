@@ -11,7 +11,7 @@ use Rattle.asn1_rs.specs.Any.Text.{GivesAnyText, LendsAnyText, has_utf8_number, 
 use Rattle.asn1_rs.specs.Any.Text.{universal_text_leaf}
 use Rattle.asn1_rs.specs.Checks.{IsCheck, content_check, has_number}
 use Rattle.asn1_rs.specs.CodedStrings.{IsCoded}
-use Rattle.asn1_rs.specs.Leaf.{HasOneRefusalUpTo, LeafGives, LeafTakes, leaf_checks}
+use Rattle.asn1_rs.specs.Leaf.{HasOneRefusalUpTo, LeafGives, LeafConverts, leaf_checks}
 use Rattle.asn1_rs.specs.Laws.Checks.{before_is, check_is, content_check_is, has_number_is, one_refusal_of_checks}
 
 -- The checks of a text in UTF-8 are a check.
@@ -32,15 +32,15 @@ universal_checks_are : IsCheck (leaf_checks universal_text_leaf)
 universal_checks_are = before_is (has_number 28) universal_text_leaf.checks (has_number_is 28)
     (content_check_is (IsCoded ucs4_octets) StringInvalidCharset (λ e. cc))
 
-universal_one : (p : Parts) (e f : Error) → LeafTakes universal_text_leaf p (Err e) →
-    LeafTakes universal_text_leaf p (Err f) → e ≡ f
+universal_one : (p : Parts) (e f : Error) → LeafConverts universal_text_leaf p (Err e) →
+    LeafConverts universal_text_leaf p (Err f) → e ≡ f
 universal_one p e f (inl a) (inl b) = universal_checks_are.one p e f a b
 universal_one p e f (inl a) (inr b) = absurd (universal_checks_are.apart p e b.0 a)
 universal_one p e f (inr a) (inl b) = absurd (universal_checks_are.apart p f a.0 b)
 universal_one p e f (inr a) (inr b) = a.1 ∙ sym b.1
 
 universal_none : (p : Parts) (text : CowStr Global) (e : Error) → LeafGives universal_text_leaf p (Ok text) →
-    LeafTakes universal_text_leaf p (Err e) → e ≡ OutOfMemory
+    LeafConverts universal_text_leaf p (Err e) → e ≡ OutOfMemory
 universal_none p text e h (inl a) = absurd (universal_checks_are.apart p e h.0 a)
 universal_none p text e h (inr a) = a.1
 

@@ -69,9 +69,13 @@ counted_header a e =
 
 -- Equality.
 
+-- the value of this identifier and these contents octets
+abbrev pub the_value : Identifier → List ℕ → ElementValue
+the_value i c = record { id = i; content = c }
+
 -- Headers that the test calls the same say one identifier.
-pub same_parts : (g h : Header) → is_same_identifier g h ≡ true → identifier_of g ≡ identifier_of h
-same_parts g h e = search rules
+pub identifiers_are_same : (g h : Header) → is_same_identifier g h ≡ true → identifier_of g ≡ identifier_of h
+identifiers_are_same g h e = search rules
 
 -- Headers that say one identifier are called the same by the test.
 pub parts_same : (g h : Header) → identifier_of g ≡ identifier_of h → is_same_identifier g h ≡ true
@@ -82,20 +86,23 @@ pub both_true : (p q : Bool) → p && q ≡ true → (p ≡ true) × (q ≡ true
 both_true true q e = (refl, e)
 both_true false q e = cc
 
+-- Identifiers and contents octets are the same where the test of each says so.
+pub same_elements_say : (g h : Header) (c d : List ℕ) (same : Bool) → IsTrue same ↔ (c ≡ d) →
+    IsTrue (is_same_identifier g h && same) ↔
+    (the_value (identifier_of g) c ≡ the_value (identifier_of h) d)
+same_elements_say g h c d same decides = (
+  λ t.
+      let b = both_true (is_same_identifier g h) same t in
+      ap (λ (z : Identifier). the_value z c) (identifiers_are_same g h b.0)
+      ∙ ap (λ (z : List ℕ). the_value (identifier_of h) z) (decides.0 b.1),
+  λ e.
+      let i : is_same_identifier g h ≡ true = parts_same g h (ap (λ (z : ElementValue). z.id) e) in
+      let c : same ≡ true = decides.1 (ap (λ (z : ElementValue). z.content) e) in
+      ap (λ b. b && same) i ∙ c,
+)
+
 -- two elements are equal exactly where they say the same
 pub element_same : (x y : Any) → IsTrue (is_same_identifier x.header y.header && bytes_eq x.content.now y.content.now) ↔
     (element_of x ≡ element_of y)
-element_same x y = (
-  λ h.
-      let b = both_true (is_same_identifier x.header y.header) (bytes_eq x.content.now y.content.now) h in
-      let i = same_parts x.header y.header b.0 in
-      let c = (bytes_eq-Decides x.content.now y.content.now).0 b.1 in
-      ap (λ (z : Identifier). let e : ElementValue = record { id = z; content = x.content.now } in e) i
-      ∙ ap (λ (z : List ℕ). let e : ElementValue = record { id = identifier_of y.header; content = z } in e) c,
-  λ e.
-      let i : is_same_identifier x.header y.header ≡ true =
-      parts_same x.header y.header (ap (λ (z : ElementValue). z.id) e) in
-      let c : bytes_eq x.content.now y.content.now ≡ true =
-      (bytes_eq-Decides x.content.now y.content.now).1 (ap (λ (z : ElementValue). z.content) e) in
-      ap (λ b. b && bytes_eq x.content.now y.content.now) i ∙ c,
-)
+element_same x y = same_elements_say x.header y.header x.content.now y.content.now _
+    (bytes_eq-Decides x.content.now y.content.now)

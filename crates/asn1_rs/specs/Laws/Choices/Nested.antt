@@ -12,7 +12,7 @@ use Rattle.asn1_rs.specs.Grammar.{IsOneBody, FormChecks, FormBodies, made}
 use Rattle.asn1_rs.specs.Grammar.Form.{IsOneForm, IsOneValue, FitsElement, HasValues, IsStrict, header_of}
 use Rattle.asn1_rs.specs.Grammar.Item.{ItemGrammar, IsLawfulItem}
 use Rattle.asn1_rs.specs.Prelude.{has_a_class, has_a_tag, is_one_of}
-use Rattle.asn1_rs.specs.Choices.{ArmsGrammar, ChosenArm, ByTag, CheckByTag, has_tag, is_among}
+use Rattle.asn1_rs.specs.Choices.{ArmsGrammar, ChosenArm, ByTag, CheckByTag, is_of_tag, is_tag_among}
 use Rattle.asn1_rs.specs.Choices.{choice_grammar, arm_tells, arm_header, arm_content, arm_constructed}
 use Rattle.asn1_rs.specs.Laws.Choices.{AreLawfulArms, AreLawfulPuts, HasArmValue, IsArmWritable, clash, class_by}
 use Rattle.asn1_rs.specs.Laws.Choices.{first_of, second_of, or_first, or_second, or_either}
@@ -42,8 +42,8 @@ or_in_turn false b c = refl
 pub either_tag : (tags others : List (ℕ × ℕ)) (i : Identifier) →
     has_a_tag (tags ++ others) i ≡ (has_a_tag tags i || has_a_tag others i)
 either_tag [] others i = refl
-either_tag (tag ∷ tags) others i = ap (λ (b : Bool). has_tag tag.0 tag.1 i || b) (either_tag tags others i) ∙
-    or_in_turn (has_tag tag.0 tag.1 i) (has_a_tag tags i) (has_a_tag others i)
+either_tag (tag ∷ tags) others i = ap (λ (b : Bool). is_of_tag tag.0 tag.1 i || b) (either_tag tags others i) ∙
+    or_in_turn (is_of_tag tag.0 tag.1 i) (has_a_tag tags i) (has_a_tag others i)
 
 -- the class of one
 pub either_class : (tags others : List (ℕ × ℕ)) (class : ℕ) →
@@ -71,19 +71,19 @@ pub tag_of_other : (tags others : List (ℕ × ℕ)) (i : Identifier) → has_a_
 tag_of_other tags others i e =
     either_tag tags others i ∙ or_second (has_a_tag tags i) (has_a_tag others i) e
 
-number_by : (class number : ℕ) (i : Identifier) → has_tag class number i ≡ true → i.number ≡ number
+number_by : (class number : ℕ) (i : Identifier) → is_of_tag class number i ≡ true → i.number ≡ number
 number_by class number i e = eqb-true i.number number (second_of (nat_eq i.class class) (nat_eq i.number number) e)
 
 -- what has one of the tags and has this one makes this one of them
-among_them : (class number : ℕ) (tags : List (ℕ × ℕ)) (i : Identifier) → has_tag class number i ≡ true →
-    has_a_tag tags i ≡ true → is_among class number tags ≡ true
+among_them : (class number : ℕ) (tags : List (ℕ × ℕ)) (i : Identifier) → is_of_tag class number i ≡ true →
+    has_a_tag tags i ≡ true → is_tag_among class number tags ≡ true
 among_them class number [] i own e = absurd (clash true refl (sym e))
-among_them class number (tag ∷ tags) i own e = elim (or_either (has_tag tag.0 tag.1 i) (has_a_tag tags i) e) [
-  | inl first ↦ or_first (nat_eq class tag.0 && nat_eq number tag.1) (is_among class number tags)
+among_them class number (tag ∷ tags) i own e = elim (or_either (is_of_tag tag.0 tag.1 i) (has_a_tag tags i) e) [
+  | inl first ↦ or_first (nat_eq class tag.0 && nat_eq number tag.1) (is_tag_among class number tags)
       (both_hold (nat_eq class tag.0) (nat_eq number tag.1)
       (eq-eqb class tag.0 (sym (class_by class number i own) ∙ class_by tag.0 tag.1 i first))
       (eq-eqb number tag.1 (sym (number_by class number i own) ∙ number_by tag.0 tag.1 i first)))
-  | inr others ↦ or_second (nat_eq class tag.0 && nat_eq number tag.1) (is_among class number tags)
+  | inr others ↦ or_second (nat_eq class tag.0 && nat_eq number tag.1) (is_tag_among class number tags)
       (among_them class number tags i own others)
 ]
 
@@ -91,12 +91,12 @@ among_them class number (tag ∷ tags) i own e = elim (or_either (has_tag tag.0 
 not_both : (tags others : List (ℕ × ℕ)) (i : Identifier) → no_tag_in_common tags others ≡ true →
     has_a_tag tags i ≡ true → has_a_tag others i ≡ true → ⊥
 not_both [] others i apart e f = clash true refl (sym e)
-not_both (tag ∷ tags) others i apart e f = elim (or_either (has_tag tag.0 tag.1 i) (has_a_tag tags i) e) [
-  | inl first ↦ clash (is_among tag.0 tag.1 others) (among_them tag.0 tag.1 others i first f)
-      (not_so (is_among tag.0 tag.1 others)
-      (first_of (not (is_among tag.0 tag.1 others)) (no_tag_in_common tags others) apart))
+not_both (tag ∷ tags) others i apart e f = elim (or_either (is_of_tag tag.0 tag.1 i) (has_a_tag tags i) e) [
+  | inl first ↦ clash (is_tag_among tag.0 tag.1 others) (among_them tag.0 tag.1 others i first f)
+      (not_so (is_tag_among tag.0 tag.1 others)
+      (first_of (not (is_tag_among tag.0 tag.1 others)) (no_tag_in_common tags others) apart))
   | inr behind ↦ not_both tags others i
-      (second_of (not (is_among tag.0 tag.1 others)) (no_tag_in_common tags others) apart) behind f
+      (second_of (not (is_tag_among tag.0 tag.1 others)) (no_tag_in_common tags others) apart) behind f
 ]
 
 -- Lawful arms.

@@ -6,8 +6,8 @@ use Rattle.x690.specs.Octets.{IsOctets}
 use Rattle.x690.specs.Identifiers.{Identifier, IsTruncatedIdentifier}
 use Rattle.x690.specs.Elements.{Parts, IsDerElement}
 use Rattle.x690.specs.Faults.{DerElementFault}
-use Rattle.asn1_headers.specs.Answers.{Front, Exactly, TellsMemory, IsOther, IsFinal}
-use Rattle.asn1_headers.specs.Error.{HeldIn, Converted}
+use Rattle.asn1_headers.specs.Answers.{HasPrefix, Exactly, TellsMemory, IsOther, IsFinal}
+use Rattle.asn1_headers.specs.Error.{ErrorIs, Converted}
 use Rattle.asn1_headers.specs.Header.Reading.{der_violation, refusal_of}
 use Rattle.asn1_headers.specs.declared.error.Err.{Err as Refusal}
 use Rattle.asn1_headers.specs.declared.error.Err.TheVariants.{Error as refused}
@@ -23,10 +23,11 @@ use Rattle.asn1_rs.specs.Grammar.{TakesBody, Checks}
 use Rattle.asn1_rs.specs.Grammar.Item.{ItemGrammar, IsLawfulItem}
 use Rattle.asn1_rs.specs.Kinds.{IsExactCheck}
 use Rattle.asn1_rs.specs.Laws.Any.{refusal_lasts, element_lasts}
-use Rattle.asn1_rs.specs.Laws.Readers.{der_elements, der_violation_no_memory, fault_no_memory, converts_itself, speaks_now}
+use Rattle.asn1_rs.specs.Laws.Readers.{der_elements, der_violation_no_memory, fault_no_memory, converts_itself}
+use Rattle.asn1_rs.specs.Laws.Readers.{refusal_speaks_now}
 use Rattle.asn1_rs.specs.Laws.Structs.Rows.{or_neither}
 use Rattle.asn1_rs.specs.Laws.Choices.{clash, or_first, or_second, has_class_of}
-use Rattle.asn1_rs.specs.Choices.{ArmsGrammar, CheckByTag, has_tag, has_a_tag, has_a_class, no_arms, or_arms}
+use Rattle.asn1_rs.specs.Choices.{ArmsGrammar, CheckByTag, is_of_tag, has_a_tag, has_a_class, no_arms, or_arms}
 use Rattle.asn1_rs.specs.Choices.{choice_grammar, OrReads, OrGives, OrChecks, IsNoArm, NoArmRefusal, KnowsClass}
 use Rattle.asn1_rs.specs.Choices.{ChoiceReads, ChoiceGives}
 use Rattle.asn1_rs.specs.Choices.Data.{AnswersByDer, AnswersOf, ChecksOf}
@@ -66,13 +67,13 @@ module _ {A B : Type 0} (class number : ℕ) (G : ItemGrammar A) (H : ArmsGramma
     tagged_element i o (inr v) d = m.der_element i o v d.1
 
     tagged_der : (i : Identifier) (o : List ℕ) (v : Arms.Value) → Arms.Der i o v → has_a_tag Arms.tags i ≡ true
-    tagged_der i o (inl v) d = or_first (has_tag class number i) (has_a_tag H.tags i) d.0
-    tagged_der i o (inr v) d = or_second (has_tag class number i) (has_a_tag H.tags i) (m.der_tagged i o v d.1)
+    tagged_der i o (inl v) d = or_first (is_of_tag class number i) (has_a_tag H.tags i) d.0
+    tagged_der i o (inr v) d = or_second (is_of_tag class number i) (has_a_tag H.tags i) (m.der_tagged i o v d.1)
 
     tagged_body : (p : Parts) (v : Arms.Value) → Arms.Body p v → has_a_tag Arms.tags p.id ≡ true
-    tagged_body p (inl v) b = or_first (has_tag class number p.id) (has_a_tag H.tags p.id) b.0
+    tagged_body p (inl v) b = or_first (is_of_tag class number p.id) (has_a_tag H.tags p.id) b.0
     tagged_body p (inr v) b =
-        or_second (has_tag class number p.id) (has_a_tag H.tags p.id) (m.body_tagged p v b.1)
+        or_second (is_of_tag class number p.id) (has_a_tag H.tags p.id) (m.body_tagged p v b.1)
 
     -- So of a lawful type before others.
     pub or_tagged : AreTagged Arms
@@ -80,19 +81,21 @@ module _ {A B : Type 0} (class number : ℕ) (G : ItemGrammar A) (H : ArmsGramma
       der_element = tagged_element;
       der_tagged = tagged_der;
       body_tagged = tagged_body;
-      check_tagged = λ p c. check_either (has_tag class number p.id) (has_a_tag H.tags p.id) (G.Check p) (H.Check p)
+      check_tagged = λ p c. check_either (is_of_tag class number p.id) (has_a_tag H.tags p.id) (G.Check p) (H.Check p)
           (m.check_tagged p) c;
     }
 
   -- a refusal that is final for the arm whose tag it is
-  final_this : (i : Identifier) (is_truncated : Type 0) (r : Refusal Error) (input : List ℕ) → has_tag class number i ≡ true →
+  final_this : (i : Identifier) (is_truncated : Type 0) (r : Refusal Error) (input : List ℕ) →
+      is_of_tag class number i ≡ true →
       IsFinal is_truncated r G.Der input → IsFinal is_truncated r (Arms.Der i) input
   final_this i is_truncated r input t n more s w rest (inl v) e d = n more s w rest v e d.1
-  final_this i is_truncated r input t n more s w rest (inr v) e d = clash (has_tag class number i) t d.0
+  final_this i is_truncated r input t n more s w rest (inr v) e d = clash (is_of_tag class number i) t d.0
 
   final_other : (i : Identifier) (is_truncated : Type 0) (r : Refusal Error) (input : List ℕ) →
-      has_tag class number i ≡ false → IsFinal is_truncated r (H.Der i) input → IsFinal is_truncated r (Arms.Der i) input
-  final_other i is_truncated r input t n more s w rest (inl v) e d = clash (has_tag class number i) d.0 t
+      is_of_tag class number i ≡ false → IsFinal is_truncated r (H.Der i) input →
+      IsFinal is_truncated r (Arms.Der i) input
+  final_other i is_truncated r input t n more s w rest (inl v) e d = clash (is_of_tag class number i) d.0 t
   final_other i is_truncated r input t n more s w rest (inr v) e d = n more s w rest v e d.1
 
   module _ (reads : List ℕ → Result (List ℕ × A) (Refusal Error) → Type 0)
@@ -106,7 +109,7 @@ module _ {A B : Type 0} (class number : ℕ) (G : ItemGrammar A) (H : ArmsGramma
       -- Readers of arms that are exact are so together.
       pub or_reads_exact : (i : Identifier) (input : List ℕ)
           (answer : Result (List ℕ × Or A B class) (Refusal Error)) → IsOctets input →
-          OrReads (has_tag class number i) reads (others i) input answer →
+          OrReads (is_of_tag class number i) reads (others i) input answer →
           Exactly IsTruncatedIdentifier (Arms.Der i) Arms.value (TellsMemory Arms.allocates (λ (e f : Error). f ≡ e)) input
           answer
       or_reads_exact i input (Ok (rest, arm.This x)) k g =
@@ -130,7 +133,7 @@ module _ {A B : Type 0} (class number : ℕ) (G : ItemGrammar A) (H : ArmsGramma
         ((i : Identifier) (input : List ℕ) (answer : Result (List ℕ × B) (Refusal Error)) → others i input answer →
         IfErr answer P) →
         (i : Identifier) (input : List ℕ) (answer : Result (List ℕ × Or A B class) (Refusal Error)) →
-        OrReads (has_tag class number i) reads (others i) input answer → IfErr answer P
+        OrReads (is_of_tag class number i) reads (others i) input answer → IfErr answer P
     or_reads_never_oom P first behind i input (Ok x) g = tt
     or_reads_never_oom P first behind i input (Err r) (inl g) = first input (Err r) g.1
     or_reads_never_oom P first behind i input (Err r) (inr g) = behind i input (Err r) g.1
@@ -139,17 +142,19 @@ module _ {A B : Type 0} (class number : ℕ) (G : ItemGrammar A) (H : ArmsGramma
     pub or_reads_other : ((i : Identifier) (input : List ℕ) (answer : Result (List ℕ × B) (Refusal Error)) →
         has_a_tag H.tags i ≡ false → others i input answer → IsNoArm refused i.number answer) →
         (i : Identifier) (input : List ℕ) (answer : Result (List ℕ × Or A B class) (Refusal Error)) →
-        has_a_tag Arms.tags i ≡ false → OrReads (has_tag class number i) reads (others i) input answer →
+        has_a_tag Arms.tags i ≡ false → OrReads (is_of_tag class number i) reads (others i) input answer →
         IsNoArm refused i.number answer
     or_reads_other behind i input (Ok (rest, arm.This x)) none g =
-        absurd (clash (has_tag class number i) g.0 (or_neither (has_tag class number i) (has_a_tag H.tags i) none).0)
+        absurd (clash (is_of_tag class number i) g.0
+        (or_neither (is_of_tag class number i) (has_a_tag H.tags i) none).0)
     or_reads_other behind i input (Ok (rest, arm.Other y)) none g =
-        let e = behind i input (Ok (rest, y)) (or_neither (has_tag class number i) (has_a_tag H.tags i) none).1 g.1 in
+        let e = behind i input (Ok (rest, y)) (or_neither (is_of_tag class number i) (has_a_tag H.tags i) none).1 g.1 in
         absurd (cc)
     or_reads_other behind i input (Err r) none (inl g) =
-        absurd (clash (has_tag class number i) g.0 (or_neither (has_tag class number i) (has_a_tag H.tags i) none).0)
+        absurd (clash (is_of_tag class number i) g.0
+        (or_neither (is_of_tag class number i) (has_a_tag H.tags i) none).0)
     or_reads_other behind i input (Err r) none (inr g) =
-        let e = behind i input (Err r) (or_neither (has_tag class number i) (has_a_tag H.tags i) none).1 g.1 in
+        let e = behind i input (Err r) (or_neither (is_of_tag class number i) (has_a_tag H.tags i) none).1 g.1 in
         let is : r ≡ refused (UnexpectedTag None (record { 0 = i.number })) = cc in
         ap Err is
 
@@ -160,7 +165,7 @@ module _ {A B : Type 0} (class number : ℕ) (G : ItemGrammar A) (H : ArmsGramma
         ((any : Any) (answer : Result B Error) → IsOctets any.content.now → others any answer →
         TakesBody H.Body H.value H.allocates (λ (e f : Error). f ≡ e) (parts_of any) answer) →
         (any : Any) (answer : Result (Or A B class) Error) → IsOctets any.content.now →
-        OrGives (has_tag class number (parts_of any).id) (gives any) (others any) answer →
+        OrGives (is_of_tag class number (parts_of any).id) (gives any) (others any) answer →
         TakesBody Arms.Body Arms.value Arms.allocates (λ (e f : Error). f ≡ e) (parts_of any) answer
     or_takes first behind any (Ok (arm.This x)) k g = (g.0, first any (Ok x) k g.1)
     or_takes first behind any (Ok (arm.Other y)) k g = (g.0, behind any (Ok y) k g.1)
@@ -169,43 +174,43 @@ module _ {A B : Type 0} (class number : ℕ) (G : ItemGrammar A) (H : ArmsGramma
       | inr n ↦ inr (body_this any g.0 n)
     ]
       where
-        body_this : (any : Any) → has_tag class number (parts_of any).id ≡ true →
+        body_this : (any : Any) → is_of_tag class number (parts_of any).id ≡ true →
             ((v : G.Value) → G.Body (parts_of any) v → ⊥) → (v : Arms.Value) → Arms.Body (parts_of any) v → ⊥
         body_this any t n (inl v) b = n v b.1
-        body_this any t n (inr v) b = clash (has_tag class number (parts_of any).id) t b.0
+        body_this any t n (inr v) b = clash (is_of_tag class number (parts_of any).id) t b.0
     or_takes first behind any (Err e) k (inr g) = elim (behind any (Err e) k g.1) [
       | inl m ↦ inl (or_second G.allocates H.allocates m.0, m.1)
       | inr n ↦ inr (body_other any g.0 n)
     ]
       where
-        body_other : (any : Any) → has_tag class number (parts_of any).id ≡ false →
+        body_other : (any : Any) → is_of_tag class number (parts_of any).id ≡ false →
             ((v : H.Value) → H.Body (parts_of any) v → ⊥) → (v : Arms.Value) → Arms.Body (parts_of any) v → ⊥
-        body_other any t n (inl v) b = clash (has_tag class number (parts_of any).id) b.0 t
+        body_other any t n (inl v) b = clash (is_of_tag class number (parts_of any).id) b.0 t
         body_other any t n (inr v) b = n v b.1
 
     pub or_takes_never_oom : (P : Error → Type 0) →
         ((any : Any) (e : Error) → gives any (Err e) → P e) → ((any : Any) (e : Error) → others any (Err e) → P e) →
         (any : Any) (e : Error) →
-        OrGives {class = class} (has_tag class number (parts_of any).id) (gives any) (others any) (Err e) → P e
+        OrGives {class = class} (is_of_tag class number (parts_of any).id) (gives any) (others any) (Err e) → P e
     or_takes_never_oom P first behind any e (inl g) = first any e g.1
     or_takes_never_oom P first behind any e (inr g) = behind any e g.1
 
     pub or_takes_other : ((any : Any) (answer : Result B Error) → has_a_tag H.tags (parts_of any).id ≡ false →
         others any answer → IsNoArm (λ (e : Error). e) (parts_of any).id.number answer) →
         (any : Any) (answer : Result (Or A B class) Error) → has_a_tag Arms.tags (parts_of any).id ≡ false →
-        OrGives (has_tag class number (parts_of any).id) (gives any) (others any) answer →
+        OrGives (is_of_tag class number (parts_of any).id) (gives any) (others any) answer →
         IsNoArm (λ (e : Error). e) (parts_of any).id.number answer
-    or_takes_other behind any (Ok (arm.This x)) none g = absurd (clash (has_tag class number (parts_of any).id) g.0
-        (or_neither (has_tag class number (parts_of any).id) (has_a_tag H.tags (parts_of any).id) none).0)
+    or_takes_other behind any (Ok (arm.This x)) none g = absurd (clash (is_of_tag class number (parts_of any).id) g.0
+        (or_neither (is_of_tag class number (parts_of any).id) (has_a_tag H.tags (parts_of any).id) none).0)
     or_takes_other behind any (Ok (arm.Other y)) none g =
         let e = behind any (Ok y)
-        (or_neither (has_tag class number (parts_of any).id) (has_a_tag H.tags (parts_of any).id) none).1 g.1 in
+        (or_neither (is_of_tag class number (parts_of any).id) (has_a_tag H.tags (parts_of any).id) none).1 g.1 in
         absurd (cc)
-    or_takes_other behind any (Err e) none (inl g) = absurd (clash (has_tag class number (parts_of any).id) g.0
-        (or_neither (has_tag class number (parts_of any).id) (has_a_tag H.tags (parts_of any).id) none).0)
+    or_takes_other behind any (Err e) none (inl g) = absurd (clash (is_of_tag class number (parts_of any).id) g.0
+        (or_neither (is_of_tag class number (parts_of any).id) (has_a_tag H.tags (parts_of any).id) none).0)
     or_takes_other behind any (Err e) none (inr g) =
         let t = behind any (Err e)
-        (or_neither (has_tag class number (parts_of any).id) (has_a_tag H.tags (parts_of any).id) none).1 g.1 in
+        (or_neither (is_of_tag class number (parts_of any).id) (has_a_tag H.tags (parts_of any).id) none).1 g.1 in
         let is : e ≡ UnexpectedTag None (record { 0 = (parts_of any).id.number }) = cc in
         ap Err is
 
@@ -227,11 +232,11 @@ module _ {A B : Type 0} (class number : ℕ) (G : ItemGrammar A) (H : ArmsGramma
 
     exactly : (p : Parts) (answer : Result (Unit {0}) Error) → OrChecks class number first others p answer →
         Checks Arms.Check p answer
-    exactly p (Ok tt) g = passes (has_tag class number p.id) p g
-    exactly p (Err e) g = refuses (has_tag class number p.id) p e g
+    exactly p (Ok tt) g = passes (is_of_tag class number p.id) p g
+    exactly p (Err e) g = refuses (is_of_tag class number p.id) p e g
 
     pub or_checks : IsExactCheck (OrChecks class number first others) Arms.Check
-    or_checks = record { exact = exactly; asks_no_memory = λ p g. never_memory (has_tag class number p.id) p g }
+    or_checks = record { exact = exactly; asks_no_memory = λ p g. never_memory (is_of_tag class number p.id) p g }
 
 -- a refusal of another cause than memory is none of memory, and the other way round
 pub not_memory : (e : Error) → IsOther (λ (x y : Error). y ≡ x) e → e ≢ OutOfMemory
@@ -252,9 +257,9 @@ none_reads i input answer k e =
     (sym e) (inr (λ more s w rest v h d. v))
 
 pub none_reads_never_oom : (n : ℕ) (answer : Result (List ℕ × Never) (Refusal Error)) → IsNoArm refused n answer →
-    IfErr answer (HeldIn (IsOther (λ (e f : Error). f ≡ e)))
+    IfErr answer (ErrorIs (IsOther (λ (e f : Error). f ≡ e)))
 none_reads_never_oom n answer e = subst (λ (a : Result (List ℕ × Never) (Refusal Error)).
-    IfErr a (HeldIn (IsOther (λ (e f : Error). f ≡ e)))) (sym e)
+    IfErr a (ErrorIs (IsOther (λ (e f : Error). f ≡ e)))) (sym e)
     (inl (UnexpectedTag None (record { 0 = n }), λ q. cc, refl))
 
 pub none_takes : (any : Any) (answer : Result Never Error) → IsOctets any.content.now →
@@ -298,14 +303,14 @@ module _ {S T : Type 0} (as_arms : T → S) (G : ArmsGrammar S) (m : AreTagged G
       Exactly IsTruncatedIdentifier (G.Der i) G.value (TellsMemory G.allocates (λ (e f : Error). f ≡ e)) input answer)
       (never_oom : G.allocates ≡ false → (i : Identifier) (input : List ℕ)
       (answer : Result (List ℕ × S) (Refusal Error)) → reads i input answer →
-      IfErr answer (HeldIn (IsOther (λ (e f : Error). f ≡ e))))
+      IfErr answer (ErrorIs (IsOther (λ (e f : Error). f ≡ e))))
       (other : (i : Identifier) (input : List ℕ) (answer : Result (List ℕ × S) (Refusal Error)) →
       has_a_tag G.tags i ≡ false → reads i input answer → IsNoArm refused i.number answer) where
     read_exact : (input : List ℕ) (answer : Result (List ℕ × T) (Refusal Error)) → IsOctets input →
         ChoiceReads G.tags as_arms reads input answer →
         Exactly IsTruncatedIdentifier Choice.Der Choice.value (TellsMemory G.allocates (λ (e f : Error). f ≡ e)) input answer
     read_exact input (Ok (rest, x)) k (any, behind, begins, g) =
-        let f : Front (G.Der (parts_of any).id) input (G.value (as_arms x)) rest =
+        let f : HasPrefix (G.Der (parts_of any).id) input (G.value (as_arms x)) rest =
         exact (parts_of any).id input (Ok (rest, as_arms x)) k g in
         let q : (p : Parts) × IsDerElement f.word p =
         m.der_element (parts_of any).id f.word (G.value (as_arms x)) f.fits in
@@ -336,19 +341,20 @@ module _ {S T : Type 0} (as_arms : T → S) (G : ArmsGrammar S) (m : AreTagged G
         ]
 
     read_never_oom : G.allocates ≡ false → (input : List ℕ) (answer : Result (List ℕ × T) (Refusal Error)) →
-        ChoiceReads G.tags as_arms reads input answer → IfErr answer (HeldIn (IsOther (λ (e f : Error). f ≡ e)))
+        ChoiceReads G.tags as_arms reads input answer → IfErr answer (ErrorIs (IsOther (λ (e f : Error). f ≡ e)))
     read_never_oom none input (Ok x) g = tt
     read_never_oom none input (Err r) (inl (fault, f, is)) =
         fault_no_memory (λ (e f : Error). f ≡ e) der_violation der_violation_no_memory fault r
         (subst (Converted (λ (e f : Error). f ≡ e) (refusal_of der_violation fault)) (sym is)
         (converts_itself der_violation fault))
     read_never_oom none input (Err r) (inr (any, behind, begins, inl (e, c, is))) =
-        subst (HeldIn (IsOther (λ (e f : Error). f ≡ e))) (sym is) (inl (e, class_refusal (parts_of any) e c, refl))
+        subst (ErrorIs (IsOther (λ (e f : Error). f ≡ e))) (sym is) (inl (e, class_refusal (parts_of any) e c, refl))
     read_never_oom none input (Err r) (inr (any, behind, begins, inr (c, g))) =
         never_oom none (parts_of any).id input (Err r) g
 
     read_other : (input : List ℕ) (answer : Result (List ℕ × T) (Refusal Error)) →
-        ChoiceReads G.tags as_arms reads input answer → (p : Parts) (rest : List ℕ) → Front IsDerElement input p rest →
+        ChoiceReads G.tags as_arms reads input answer → (p : Parts) (rest : List ℕ) →
+        HasPrefix IsDerElement input p rest →
         has_a_tag G.tags p.id ≡ false → (e : Error) × NoArmRefusal G.tags p.id e × (answer ≡ Err (refused e))
     read_other input (Ok (left, x)) (any, behind, begins, g) p rest f none =
         let same = element_lasts IsDerElement DerElementFault IsTruncatedIdentifier der_elements der_violation input
@@ -357,7 +363,8 @@ module _ {S T : Type 0} (as_arms : T → S) (G : ArmsGrammar S) (m : AreTagged G
         (subst (λ (q : Parts). has_a_tag G.tags q.id ≡ false) same.0 none) g in
         absurd (cc)
     read_other input (Err r) (inl g) p rest f none = absurd (refusal_lasts IsDerElement DerElementFault IsTruncatedIdentifier
-        der_elements der_violation input r g [] f.word rest p (speaks_now (IsTruncatedIdentifier input) r) f.fits
+        der_elements der_violation input r g [] f.word rest p (refusal_speaks_now (IsTruncatedIdentifier input) r)
+        f.fits
         (append-nil input ∙ f.is))
     read_other input (Err r) (inr (any, behind, begins, inl (e, c, is))) p rest f none =
         let same = element_lasts IsDerElement DerElementFault IsTruncatedIdentifier der_elements der_violation input

@@ -9,7 +9,7 @@ use Rattle.asn1_rs.specs.declared.asn1_types.embedded_pdv.EmbeddedPdv.{EmbeddedP
 use Rattle.asn1_rs.specs.declared.asn1_types.embedded_pdv.PdvIdentification.{PdvIdentification}
 use Rattle.asn1_rs.specs.declared.asn1_types.embedded_pdv.PdvIdentification.TheVariants as parts
 use Rattle.asn1_rs.specs.declared.asn1_types.strings.RestrictedString.{RestrictedString}
-use Rattle.asn1_rs.specs.Strings.{text_of}
+use Rattle.asn1_rs.specs.Strings.{string_text}
 use Rattle.asn1_rs.specs.EmbeddedPdv.{Identification, descriptor_text, syntax, context, transfer, PdvValue}
 use Rattle.asn1_rs.specs.EmbeddedPdv.{identification_of, pdv_value}
 use Rattle.asn1_rs.specs.Laws.Integer.Octets.{octets_equal}
@@ -82,7 +82,7 @@ identification_equal parts.Fixed parts.Fixed = (λ h. refl, λ e. refl)
 
 -- Descriptors are equal exactly where their texts are, or both are left out.
 descriptor_equal : {K F : Type 0} (eq : RestrictedString K F → RestrictedString K F → Bool) →
-    ((x y : RestrictedString K F) → IsTrue (eq x y) ↔ (text_of x ≡ text_of y)) →
+    ((x y : RestrictedString K F) → IsTrue (eq x y) ↔ (string_text x ≡ string_text y)) →
     (x y : Option (RestrictedString K F)) → IsTrue (option_eq eq x y) ↔ (descriptor_text x ≡ descriptor_text y)
 descriptor_equal eq h (Some x) (Some y) = trans_iff (h x y) (ap Some, λ e. cc)
 descriptor_equal eq h (Some x) None = (λ t. absurd (false≢true t), λ e. cc)

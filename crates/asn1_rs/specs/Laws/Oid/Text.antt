@@ -12,18 +12,18 @@ use Rattle.asn1_rs.specs.Oid.Text.{hex_octet, hex_text, are_small, id_text}
 -- Texts piece by piece.
 
 -- what stands behind the first of joined texts
-abbrev pub behind : ℕ → List (List ℕ) → List ℕ
-behind byte texts = flat_map (λ text. byte ∷ text) texts
+abbrev pub behind_first : ℕ → List (List ℕ) → List ℕ
+behind_first byte texts = flat_map (λ text. byte ∷ text) texts
 
 -- Joined texts are the first of them, and what stands behind it.
 pub joined_behind : (byte : ℕ) (text : List ℕ) (texts : List (List ℕ)) →
-    join_with_byte byte (text ∷ texts) ≡ text ++ behind byte texts
+    join_with_byte byte (text ∷ texts) ≡ text ++ behind_first byte texts
 joined_behind byte text [] = sym (append-nil text)
 joined_behind byte text (next ∷ texts) = ap (λ (more : List ℕ). text ++ (byte ∷ more)) (joined_behind byte next texts)
 
 -- behind the first arc
 abbrev pub pointed : List ℕ → List ℕ
-pointed arcs = behind 46 (map decimal arcs)
+pointed arcs = behind_first 46 (map decimal arcs)
 
 -- The text of arcs is the first arc, and the others behind points.
 pub arcs_pointed : (arc : ℕ) (arcs : List ℕ) → arcs_text (arc ∷ arcs) ≡ decimal arc ++ pointed arcs
@@ -31,7 +31,7 @@ arcs_pointed arc arcs = joined_behind 46 (decimal arc) (map decimal arcs)
 
 -- behind the first octet
 abbrev pub spaced : List ℕ → List ℕ
-spaced octets = behind 32 (map hex_octet octets)
+spaced octets = behind_first 32 (map hex_octet octets)
 
 -- The text of octets is the first octet, and the others behind spaces.
 pub octets_spaced : (octet : ℕ) (octets : List ℕ) → hex_text (octet ∷ octets) ≡ hex_octet octet ++ spaced octets

@@ -19,7 +19,7 @@ use Rattle.asn1_headers.specs.Ber.{max_depth, EndsWithin}
 use Rattle.asn1_rs.specs.Traits.{PassesAll}
 use Rattle.asn1_rs.specs.Grammar.{ElementWord, NoCheck, TakesBody}
 use Rattle.asn1_headers.specs.Walk.{TakesItem}
-use Rattle.asn1_rs.specs.Sequence.Iterator.{IsWalk, TellsNothing, TellsMemoryAlone, IsMemory, EndsWalk, ElementsGive}
+use Rattle.asn1_rs.specs.Sequence.Iterator.{IsWalk, ReportsNothing, TellsMemoryAlone, IsMemory, EndsWalk, ElementsGive}
 use Rattle.asn1_rs.specs.Sequence.Iterator.{IsSame}
 use Rattle.asn1_rs.specs.Laws.Any.Value.{the_element_parts}
 use Rattle.asn1_rs.specs.Laws.Readers.{ber_elements, element_exact, passes_all}
@@ -66,7 +66,7 @@ row_words within (word ∷ words) headers l r =
 
 -- without memory that is taken, no refusal is told
 no_end : (octets : List ℕ) (ends : List (Result Any Error)) (left : List ℕ) →
-    EndsWalk (TellsMemoryAlone (IsMemory false IsSame)) octets ends left → EndsWalk TellsNothing octets ends left
+    EndsWalk (TellsMemoryAlone (IsMemory false IsSame)) octets ends left → EndsWalk ReportsNothing octets ends left
 no_end octets [] left e = e
 no_end octets (Err e ∷ []) left w = let untold = w.1.0 in cc
 no_end octets (Err e ∷ (a ∷ others)) left w = w
@@ -76,7 +76,7 @@ no_end octets (Ok x ∷ others) left w = w
 pub indefinite_walk : (input : List ℕ) (x : List ℕ × Any) (content : List ℕ) (answers : List (Result Any Error))
     (left : List ℕ) → BerElementGives input (Ok x) → (parts_of x.1).form ≡ indefinite →
     content ≡ (parts_of x.1).content → Yields (TakesItem ElementsGive IsSame) content answers left →
-    IsWalk (IsElement max_depth) parts_of TellsNothing content answers left
+    IsWalk (IsElement max_depth) parts_of ReportsNothing content answers left
 indefinite_walk input x content answers left g f e y =
     let front = g.front in
     let n = front.fits.1 in

@@ -14,7 +14,7 @@ use Rattle.asn1_headers.specs.declared.error.Err.TheVariants.{Incomplete as trun
 use Rattle.asn1_headers.specs.declared.error.Error.{Error}
 use Rattle.asn1_headers.specs.declared.error.Error.TheVariants as errors
 use Rattle.asn1_headers.specs.Error.{FlattenedTo}
-use Rattle.asn1_headers.specs.Answers.{Front, Exactly, TellsMemory}
+use Rattle.asn1_headers.specs.Answers.{HasPrefix, Exactly, TellsMemory}
 use Rattle.asn1_rs.specs.declared.asn1_types.sequence.iterator.SequenceIterator.{SequenceIterator}
 use Rattle.asn1_headers.specs.Walk.{EndsItem, TakesItem}
 use Rattle.asn1_rs.specs.Sequence.Iterator.{octets_left, WalkSteps, EndsWalk, IsWalk, IsWalkOf, EndsJoined, TellsNoWord}
@@ -74,7 +74,7 @@ module _ {T E : Type 0} (reads : List ℕ → Result (List ℕ × T) (Refusal E)
   module _ {V : Type 0} (G : List ℕ → V → Type 0) (value : T → V) (Tells : List ℕ → E → Type 0)
       (Keeps : List ℕ → Type 0)
       (takes : (octets rest : List ℕ) (item : T) → Keeps octets → octets ≢ [] → reads octets (Ok (rest, item)) →
-      Front G octets (value item) rest × Keeps rest)
+      HasPrefix G octets (value item) rest × Keeps rest)
       (tells : (octets : List ℕ) (answer : Result (List ℕ × T) (Refusal E)) (e : E) → Keeps octets → octets ≢ [] →
       reads octets answer → EndsItem from octets answer e → Tells octets e) where
     -- A walk each of whose items is a word, and whose refusal tells what it has to, is a walk over the words.
@@ -135,7 +135,7 @@ module _ {T V E : Type 0} (reads : List ℕ → Result (List ℕ × T) (Refusal 
     (exact : (octets : List ℕ) (answer : Result (List ℕ × T) (Refusal E)) → Keeps octets → reads octets answer →
     Exactly IsTruncated G value (TellsMemory allocates from) octets answer) where
   -- the rest behind a word is shorter
-  not_as_long : (octets rest : List ℕ) (v : V) → Front G octets v rest → length octets ≤ length rest → ⊥
+  not_as_long : (octets rest : List ℕ) (v : V) → HasPrefix G octets v rest → length octets ≤ length rest → ⊥
   not_as_long octets rest v f l = shown f.word f.fits f.is
     where
       shown : (word : List ℕ) → G word v → octets ≡ word ++ rest → ⊥
@@ -173,7 +173,7 @@ module _ {T V E : Type 0} (reads : List ℕ → Result (List ℕ × T) (Refusal 
   KeepsJoined octets = Keeps octets × AreConcatenatedWords G octets
 
   -- behind the first of joined words the others are joined
-  others_joined : (octets rest : List ℕ) (v : V) → AreConcatenatedWords G octets → Front G octets v rest →
+  others_joined : (octets rest : List ℕ) (v : V) → AreConcatenatedWords G octets → HasPrefix G octets v rest →
       AreConcatenatedWords G rest
   others_joined octets rest v ([], a, e) f = absurd (shown f.word f.fits (sym e ∙ f.is))
     where

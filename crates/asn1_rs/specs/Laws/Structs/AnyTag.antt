@@ -11,7 +11,7 @@ use Rattle.asn1_headers.specs.declared.error.Error.{Error}
 use Rattle.asn1_headers.specs.declared.tag.Tag.{Tag}
 use Rattle.asn1_headers.specs.Answers.{Exactly, IsOther, TellsMemory}
 use Rattle.asn1_headers.specs.Ber.{max_depth, EndsWithin}
-use Rattle.asn1_headers.specs.Error.{HeldIn}
+use Rattle.asn1_headers.specs.Error.{ErrorIs}
 use Rattle.asn1_headers.specs.Header.{identifier_of}
 use Rattle.asn1_headers.specs.Header.Reading.{der_violation, ber_violation}
 use Rattle.asn1_rs.specs.declared.asn1_types.any.Any.{Any}
@@ -33,7 +33,7 @@ use Rattle.asn1_rs.specs.Structs.{any_number, item_field, left_out_at_end, optio
 use Rattle.asn1_rs.specs.Structs.Data.{AnswersField}
 use Rattle.asn1_rs.specs.Tagged.{ThenByDer, ThenByBer}
 use Rattle.asn1_rs.specs.Tagged.Headed.{CheckedBody, explicit_headed, implicit_headed}
-use Rattle.asn1_rs.specs.Tagged.Parser.{TakesExplicit, TakesWhole, TakesImplicit, ChecksAndConverts}
+use Rattle.asn1_rs.specs.Tagged.Parser.{TakesExplicit, TakesWholeContent, TakesImplicit, ChecksAndConverts}
 use Rattle.asn1_rs.specs.Tagged.Parser.{parser_header, inner_of}
 
 -- what a reader may answer
@@ -62,7 +62,7 @@ IsExact {S} rules G reads = (octets : List ℕ) (answer : Result (List ℕ × S)
 -- and report out of memory only where the type allocates
 abbrev IsNeverOom : {S : Type 0} → ItemGrammar S → Reads S → Type 0
 IsNeverOom {S} G reads = G.allocates ≡ false → (octets : List ℕ) (answer : Result (List ℕ × S) (Refusal Error)) →
-    reads octets answer → IfErr answer (HeldIn (IsOther Same))
+    reads octets answer → IfErr answer (ErrorIs (IsOther Same))
 
 -- An exact reader of a type answers as such fields do.
 any_tag_answers : {S : Type 0} (rules : EncodingRules) (G : ItemGrammar S) → IsLawfulItem G → (reads : Reads S) →
@@ -83,9 +83,9 @@ module _ {K T : Type 0} (G : ItemGrammar T) (l : IsLawfulItem G) (reads : Reads 
 
   -- Their reader by DER answers so where that of the value is exact.
   pub explicit_by_der : IsExact by_der G reads → IsNeverOom G reads →
-      AnswersAnyTag by_der Explicitly (ThenByDer Same (TakesWhole reads Same))
+      AnswersAnyTag by_der Explicitly (ThenByDer Same (TakesWholeContent reads Same))
   explicit_by_der exact never_oom = any_tag_answers by_der Explicitly (explicit_headed_lawful parser_identifier inner_of G l)
-      (ThenByDer Same (TakesWhole reads Same))
+      (ThenByDer Same (TakesWholeContent reads Same))
       (λ octets answer k. whole_parser_exact IsDerElement DerElementFault IsTruncatedIdentifier der_elements der_violation reads
       Same G.Der G.value G.allocates exact l.der_one octets answer)
       (λ none. whole_parser_no_memory IsDerElement DerElementFault der_violation der_violation_no_memory reads Same

@@ -8,10 +8,10 @@ use Rattle.x690.specs.Octets.{IsOctets}
 use Rattle.asn1_headers.specs.declared.error.Err.{Err as Refusal}
 use Rattle.asn1_headers.specs.declared.error.Error.{Error}
 use Rattle.asn1_headers.specs.Answers.{IsOther}
-use Rattle.asn1_headers.specs.Error.{HeldIn}
+use Rattle.asn1_headers.specs.Error.{ErrorIs}
 use Rattle.asn1_rs.specs.Grammar.{FormNumber}
 use Rattle.asn1_rs.specs.Grammar.Item.{ItemGrammar, IsLawfulItem, IsLawfulWriting}
-use Rattle.asn1_rs.specs.Optional.{IfHeld, OptionGives, in_some, option_writing}
+use Rattle.asn1_rs.specs.Optional.{InSome, OptionGives, in_some, option_writing}
 use Rattle.asn1_rs.specs.ToDer.{Writing, whole_octets}
 use Rattle.asn1_rs.specs.Structs.{EncodingRules, header_rule, FieldGrammar, item_field, optional_field}
 use Rattle.asn1_rs.specs.Structs.{OptionStrict, BeginsWithOneOf, BeginsApart, ReadsField, among, left_out_by}
@@ -151,15 +151,15 @@ module _ {S W : Type 0} (inner : W → S) (number : ℕ) (G : ItemGrammar S) (de
         of (inl t) = inl (t.0, subst (λ (y : Option S). OptionStrict G.Form (option_map G.value y) o) t.1 s)
         of (inr t) = inr (t.0, subst (λ (y : Option S). OptionStrict G.Form (option_map G.value y) o) t.1 s)
 
-    held_der : (x : W) → F.IsDer (G.value (inner x)) → IfHeld G.IsDer (option_map G.value (written x))
+    held_der : (x : W) → F.IsDer (G.value (inner x)) → InSome G.IsDer (option_map G.value (written x))
     held_der x d = of (told x) d
       where
         of : ((G.value (inner x) ≡ default) × (written x ≡ None)) ⊎
             ((G.value (inner x) ≢ default) × (written x ≡ Some (inner x))) → F.IsDer (G.value (inner x)) →
-            IfHeld G.IsDer (option_map G.value (written x))
-        of (inl t) d = subst (λ (y : Option S). IfHeld G.IsDer (option_map G.value y)) (sym t.1) tt
+            InSome G.IsDer (option_map G.value (written x))
+        of (inl t) d = subst (λ (y : Option S). InSome G.IsDer (option_map G.value y)) (sym t.1) tt
         of (inr t) (inl e) = absurd (t.0 e)
-        of (inr t) (inr d) = subst (λ (y : Option S). IfHeld G.IsDer (option_map G.value y)) (sym t.1) d
+        of (inr t) (inr d) = subst (λ (y : Option S). InSome G.IsDer (option_map G.value y)) (sym t.1) d
 
     module _ (l : IsLawfulItem G) (w : Writing S) (k : IsLawfulWriting G w) where
       put : IsLawfulPut Held (option_writing w)
@@ -205,10 +205,10 @@ module _ {S W : Type 0} (inner : W → S) (number : ℕ) (G : ItemGrammar S) (de
 pub default_no_memory : {S W V : Type 0} (inner : W → S) (value : S → V) (default : V) (LeftOut : List ℕ → Type 0)
     (reads : List ℕ → Result (List ℕ × S) (Refusal Error) → Type 0) →
     ((octets : List ℕ) (answer : Result (List ℕ × S) (Refusal Error)) → reads octets answer →
-    IfErr answer (HeldIn (IsOther (λ (x y : Error). y ≡ x)))) →
+    IfErr answer (ErrorIs (IsOther (λ (x y : Error). y ≡ x)))) →
     (octets : List ℕ) (answer : Result (List ℕ × W) (Refusal Error)) →
     DefaultGives inner value default LeftOut reads octets answer →
-    IfErr answer (HeldIn (IsOther (λ (x y : Error). y ≡ x)))
+    IfErr answer (ErrorIs (IsOther (λ (x y : Error). y ≡ x)))
 default_no_memory inner value default LeftOut reads none octets (Ok x) g = tt
 default_no_memory inner value default LeftOut reads none octets (Err r) g = none octets (Err r) g.1
 

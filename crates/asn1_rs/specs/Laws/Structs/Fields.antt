@@ -18,8 +18,8 @@ use Rattle.x690.specs.Laws.Headers.{header_unique, header_two}
 use Rattle.x690.specs.Laws.StrictElements.{der_allows_strict, ber_allows_strict}
 use Rattle.asn1_headers.specs.declared.error.Err.{Err as Refusal}
 use Rattle.asn1_headers.specs.declared.error.Error.{Error}
-use Rattle.asn1_headers.specs.Answers.{Front, Exactly, TellsMemory, IsOther}
-use Rattle.asn1_headers.specs.Error.{HeldIn}
+use Rattle.asn1_headers.specs.Answers.{HasPrefix, Exactly, TellsMemory, IsOther}
+use Rattle.asn1_headers.specs.Error.{ErrorIs}
 use Rattle.asn1_rs.specs.Grammar.{FormNumber}
 use Rattle.asn1_rs.specs.Grammar.Form.{IsStrict}
 use Rattle.asn1_rs.specs.Grammar.Item.{ItemGrammar, IsLawfulItem, IsLawfulWriting, ber_words}
@@ -27,7 +27,7 @@ use Rattle.asn1_rs.specs.Laws.Forms.{strict_written, both_by_value, der_strict}
 use Rattle.asn1_rs.specs.Laws.Optional.{not_left_out}
 use Rattle.asn1_rs.specs.Laws.Readers.{none_now}
 use Rattle.asn1_rs.specs.Laws.Words.{strict_element, one_strict, ber_values, ber_one, strict_ber}
-use Rattle.asn1_rs.specs.Optional.{IfHeld, IsLeftOut, OptionGives, option_writing, in_some}
+use Rattle.asn1_rs.specs.Optional.{InSome, IsLeftOut, OptionGives, option_writing, in_some}
 use Rattle.asn1_rs.specs.ToDer.{Writing, IsWritable, whole_octets}
 use Rattle.asn1_rs.specs.Structs.{EncodingRules, by_der, by_ber, header_rule, words_by, IsTruncatedBy, FieldGrammar, item_field}
 use Rattle.asn1_rs.specs.Structs.{optional_field, OptionTakes, OptionStrict, BeginsWithNumber, ReadsField, Numbers, left_out_by}
@@ -108,8 +108,8 @@ module _ {S : Type 0} (G : ItemGrammar S) (l : IsLawfulItem G) where
   strict_word by_ber v o s = strict_ber G l v o s
 
   -- words that begin the same octets are one
-  front_one : (rules : EncodingRules) (o : List ℕ) (v w : G.Value) (r s : List ℕ) → Front (words_by rules G) o v r →
-      Front (words_by rules G) o w s → (v ≡ w) × (r ≡ s)
+  front_one : (rules : EncodingRules) (o : List ℕ) (v w : G.Value) (r s : List ℕ) → HasPrefix (words_by rules G) o v r →
+      HasPrefix (words_by rules G) o w s → (v ≡ w) × (r ≡ s)
   front_one rules o v w r s f g =
       let same : (f.word ≡ g.word) × (v ≡ w) =
       (one_word rules).one f.word g.word r s v w f.fits g.fits (sym f.is ∙ g.is) in
@@ -117,7 +117,7 @@ module _ {S : Type 0} (G : ItemGrammar S) (l : IsLawfulItem G) where
 
   -- what a word leaves of octets is octets
   front_back : (rules : EncodingRules) (o : List ℕ) (v : G.Value) (r : List ℕ) → IsOctets o →
-      Front (words_by rules G) o v r → IsOctets r
+      HasPrefix (words_by rules G) o v r → IsOctets r
   front_back rules o v r k f = octets_back f.word r (subst IsOctets f.is k)
 
   -- strict encodings are octets
@@ -127,7 +127,7 @@ module _ {S : Type 0} (G : ItemGrammar S) (l : IsLawfulItem G) where
 
   -- they are words before any rest
   strict_front : (rules : EncodingRules) (v : G.Value) (o rest : List ℕ) → IsStrict G.Form v o →
-      Front (words_by rules G) (o ++ rest) v rest
+      HasPrefix (words_by rules G) (o ++ rest) v rest
   strict_front rules v o rest s = record { word = o; fits = strict_word rules v o s; is = refl }
 
   -- A field of a lawful type is lawful, if its strict encodings begin with one of its tag numbers.
@@ -256,13 +256,13 @@ module _ {S : Type 0} (G : ItemGrammar S) (l : IsLawfulItem G) where
     option_strict_put None o s = ((λ e h. h, λ e h. h, λ e h. h), sym s)
     option_strict_put (Some x) o s = strict_written G.value G.Form w k.form x o s
 
-    option_der_strict : (x : Option S) → IfHeld G.IsDer (option_map G.value x) →
+    option_der_strict : (x : Option S) → InSome G.IsDer (option_map G.value x) →
         length (whole_octets (option_writing w) x) < 2 ^ 64 →
         ∥ OptionStrict G.Form (option_map G.value x) (whole_octets (option_writing w) x) ∥₁
     option_der_strict None d short = ∣ refl ∣₁
     option_der_strict (Some x) d short = der_strict G.value G.IsDer G.Form w k.form k.der_form l.form_fits x d short
 
-    option_der_writable : (x : Option S) → IfHeld G.IsDer (option_map G.value x) →
+    option_der_writable : (x : Option S) → InSome G.IsDer (option_map G.value x) →
         IsWritable (option_writing w) x
     option_der_writable None d = (λ e h. h, λ e h. h, λ e h. h)
     option_der_writable (Some x) d = k.der_writable x d
@@ -295,7 +295,7 @@ module _ {S : Type 0} (G : ItemGrammar S) (l : IsLawfulItem G) where
 
     module _ (numbers : Numbers) (LeftOut : EncodingRules → List ℕ → Type 0) where
       option_nothing : (octets : List ℕ) → (LeftOut rules octets → ⊥) →
-          ((v : G.Value) (rest : List ℕ) → Front (words_by rules G) octets v rest → ⊥) →
+          ((v : G.Value) (rest : List ℕ) → HasPrefix (words_by rules G) octets v rest → ⊥) →
           (v : Option G.Value) (rest : List ℕ) → OptionTakes (LeftOut rules) (words_by rules G) octets v rest → ⊥
       option_nothing octets stays none None rest t = stays t.0
       option_nothing octets stays none (Some v) rest t = none v rest t.1
@@ -425,15 +425,15 @@ module _ {S : Type 0} (G : ItemGrammar S) (l : IsLawfulItem G) where
 pub optional_no_memory : {T : Type 0} (LeftOut : List ℕ → Type 0)
     (reads : List ℕ → Result (List ℕ × T) (Refusal Error) → Type 0) →
     ((octets : List ℕ) (answer : Result (List ℕ × T) (Refusal Error)) → reads octets answer →
-    IfErr answer (HeldIn (IsOther (λ (x y : Error). y ≡ x)))) →
+    IfErr answer (ErrorIs (IsOther (λ (x y : Error). y ≡ x)))) →
     (octets : List ℕ) (answer : Result (List ℕ × Option T) (Refusal Error)) → OptionGives LeftOut reads octets answer →
-    IfErr answer (HeldIn (IsOther (λ (x y : Error). y ≡ x)))
+    IfErr answer (ErrorIs (IsOther (λ (x y : Error). y ≡ x)))
 optional_no_memory LeftOut reads none octets answer (inl (out, e)) =
-    subst (λ a. IfErr a (HeldIn (IsOther (λ (x y : Error). y ≡ x)))) (sym e) tt
+    subst (λ a. IfErr a (ErrorIs (IsOther (λ (x y : Error). y ≡ x)))) (sym e) tt
 optional_no_memory {T} LeftOut reads none octets answer (inr (stays, (its, g, e))) =
-    subst (λ a. IfErr a (HeldIn (IsOther (λ (x y : Error). y ≡ x)))) (sym e) (held its (none octets its g))
+    subst (λ a. IfErr a (ErrorIs (IsOther (λ (x y : Error). y ≡ x)))) (sym e) (held its (none octets its g))
   where
-    held : (its : Result (List ℕ × T) (Refusal Error)) → IfErr its (HeldIn (IsOther (λ (x y : Error). y ≡ x))) →
-        IfErr (in_some its) (HeldIn (IsOther (λ (x y : Error). y ≡ x)))
+    held : (its : Result (List ℕ × T) (Refusal Error)) → IfErr its (ErrorIs (IsOther (λ (x y : Error). y ≡ x))) →
+        IfErr (in_some its) (ErrorIs (IsOther (λ (x y : Error). y ≡ x)))
     held (Ok x) h = tt
     held (Err r) h = h

@@ -74,9 +74,9 @@ pub gives_none : {T E : Type 0} (LeftOut : List ℕ → Type 0)
 gives_none LeftOut reads octets told tells is = inl (tells.0 is, refl)
 
 -- and else the whole answer of the reader of the value
-pub gives_held : {T E : Type 0} (LeftOut : List ℕ → Type 0)
+pub gives_some : {T E : Type 0} (LeftOut : List ℕ → Type 0)
     (reads : List ℕ → Result (List ℕ × T) (Refusal E) → Type 0) (octets : List ℕ) (told : Bool) →
     IsTrue told ↔ LeftOut octets → told ≡ false → (its : Result (List ℕ × T) (Refusal E)) → reads octets its →
     (answer : Result (List ℕ × Option T) (Refusal E)) → answer ≡ in_some its → OptionGives LeftOut reads octets answer
-gives_held LeftOut reads octets told tells stays its gives answer is =
+gives_some LeftOut reads octets told tells stays its gives answer is =
     inr (λ out. absurd (false≢true (sym stays ∙ tells.1 out)), (its, gives, is))

@@ -38,10 +38,10 @@ some_put w x old new answer p = record {
   accepted = p.accepted;
 }
 
-pub held_put : {S : Type 0} (w : Writing S) (o : Option S) (x : S) → o ≡ Some x → (old new : TakenFields)
+pub put_some : {S : Type 0} (w : Writing S) (o : Option S) (x : S) → o ≡ Some x → (old new : TakenFields)
     (answer : Result (Unit {0}) SerializeError) → PutsField w x old new answer →
     PutsField (option_writing w) o old new answer
-held_put w o x is old new answer p =
+put_some w o x is old new answer p =
     subst (λ o. PutsField (option_writing w) o old new answer) (sym is) (some_put w x old new answer p)
 
 pub end_puts : (old : TakenFields) → PutsRow none_put old old (Ok tt)

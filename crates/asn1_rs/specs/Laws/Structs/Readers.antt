@@ -7,8 +7,8 @@ use Rattle.x690.specs.Identifiers.{IsTruncatedIdentifier}
 use Rattle.asn1_headers.specs.declared.error.Err.{Err as Refusal}
 use Rattle.asn1_headers.specs.declared.error.Error.{Error}
 use Rattle.asn1_headers.specs.declared.error.Error.TheVariants as errors
-use Rattle.asn1_headers.specs.Answers.{Exactly, Front, IsOther, TellsMemory}
-use Rattle.asn1_headers.specs.Error.{HeldIn}
+use Rattle.asn1_headers.specs.Answers.{Exactly, HasPrefix, IsOther, TellsMemory}
+use Rattle.asn1_headers.specs.Error.{ErrorIs}
 use Rattle.asn1_headers.specs.Header.Reading.{der_violation, ber_violation}
 use Rattle.x690.specs.Elements.{IsDerElement}
 use Rattle.x690.specs.Faults.{DerElementFault}
@@ -82,7 +82,7 @@ module _ {S : Type 0} (rules : EncodingRules) (G : ItemGrammar S) (numbers : Num
   none_answers octets told tells is = record { exact = λ k. (tells.0 is, refl); no_memory = λ none. tt }
 
   nothing_held : (octets : List ℕ) → (LeftOut rules octets → ⊥) →
-      ((v : G.Value) (rest : List ℕ) → Front (words_by rules G) octets v rest → ⊥) →
+      ((v : G.Value) (rest : List ℕ) → HasPrefix (words_by rules G) octets v rest → ⊥) →
       (v : Option G.Value) (rest : List ℕ) → OptionTakes (LeftOut rules) (words_by rules G) octets v rest → ⊥
   nothing_held octets stays none None rest t = stays t.0
   nothing_held octets stays none (Some v) rest t = none v rest t.1
@@ -116,7 +116,7 @@ module _ {S : Type 0} (rules : EncodingRules) (G : ItemGrammar S) (l : IsLawfulI
     (exact : (octets : List ℕ) (answer : Result (List ℕ × S) (Refusal Error)) → IsOctets octets → reads octets answer →
     Exactly (IsTruncatedBy rules) (words_by rules G) G.value (TellsMemory G.allocates (λ (x y : Error). y ≡ x)) octets answer)
     (never_oom : G.allocates ≡ false → (octets : List ℕ) (answer : Result (List ℕ × S) (Refusal Error)) →
-    reads octets answer → IfErr answer (HeldIn (IsOther (λ (x y : Error). y ≡ x)))) where
+    reads octets answer → IfErr answer (ErrorIs (IsOther (λ (x y : Error). y ≡ x)))) where
   -- An exact reader of a type answers as its required field does.
   pub item_answers : (numbers : Numbers) (octets : List ℕ) (answer : Result (List ℕ × S) (Refusal Error)) →
       reads octets answer → AnswersField rules (item_field numbers G) octets answer
@@ -147,7 +147,7 @@ any_exact_by_der octets answer k g = element_exact IsDerElement DerElementFault 
 any_never_oom_by_der : any_element.allocates ≡ false → (octets : List ℕ)
     (answer : Result (List ℕ × Any) (Refusal Error)) →
     DerGives IsDefiniteOr IsTheElement (λ (x y : Error). y ≡ x) octets answer →
-    IfErr answer (HeldIn (IsOther (λ (x y : Error). y ≡ x)))
+    IfErr answer (ErrorIs (IsOther (λ (x y : Error). y ≡ x)))
 any_never_oom_by_der none = element_no_memory IsDerElement DerElementFault der_violation der_violation_no_memory IsDefiniteOr
     IsTheElement (λ (x y : Error). y ≡ x) element_checks.asks_no_memory
     (other_error IsTheElement (element_converts.asks_no_memory none))
@@ -165,7 +165,7 @@ any_exact_by_ber octets answer k g = element_exact (IsElement max_depth) (Elemen
 any_never_oom_by_ber : any_element.allocates ≡ false → (octets : List ℕ)
     (answer : Result (List ℕ × Any) (Refusal Error)) →
     BerGives IsTheElement (λ (x y : Error). y ≡ x) octets answer →
-    IfErr answer (HeldIn (IsOther (λ (x y : Error). y ≡ x)))
+    IfErr answer (ErrorIs (IsOther (λ (x y : Error). y ≡ x)))
 any_never_oom_by_ber none = element_no_memory (IsElement max_depth) (ElementFault max_depth) ber_violation ber_violation_no_memory
     PassesAll IsTheElement (λ (x y : Error). y ≡ x) all_pass
     (other_error IsTheElement (element_converts.asks_no_memory none))
@@ -226,7 +226,7 @@ module _ {T : Type 0} (X : LawfulStructOf T) (gives : List ℕ → Result T Erro
   pub struct_by_der_never_oom : (grammar_of_struct X).allocates ≡ false → (input : List ℕ)
       (answer : Result (List ℕ × T) (Refusal Error)) →
       DerGives PassesAll (StructGives (AnswersAlso by_der X gives)) (λ (x y : Error). y ≡ x) input answer →
-      IfErr answer (HeldIn (IsOther (λ (x y : Error). y ≡ x)))
+      IfErr answer (ErrorIs (IsOther (λ (x y : Error). y ≡ x)))
   struct_by_der_never_oom none =
       element_no_memory IsDerElement DerElementFault der_violation der_violation_no_memory PassesAll
       (StructGives (AnswersAlso by_der X gives)) (λ (x y : Error). y ≡ x) all_pass (struct_never_oom by_der X gives none)

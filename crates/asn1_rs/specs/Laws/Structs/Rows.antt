@@ -12,12 +12,13 @@ use Rattle.asn1_headers.specs.declared.error.Err.TheVariants.{Incomplete as trun
 use Rattle.asn1_headers.specs.declared.error.Error.{Error}
 use Rattle.asn1_headers.specs.declared.error.Error.TheVariants as errors
 use Rattle.asn1_headers.specs.Answers.{TellsMemory, IsOther}
-use Rattle.asn1_headers.specs.Error.{HeldIn}
+use Rattle.asn1_headers.specs.Error.{ErrorIs}
 use Rattle.asn1_rs.specs.FieldReader.{BecomesError}
 use Rattle.asn1_rs.specs.Laws.Whole.{memory_becomes}
 use Rattle.asn1_rs.specs.Structs.{EncodingRules, header_rule, FieldGrammar, RowGrammar, empty_row, row_of, Numbers}
-use Rattle.asn1_rs.specs.Structs.{any_number, among, is_one_of, have_none_in_common, are_apart, or_those, numbers_of}
-use Rattle.asn1_rs.specs.Structs.{BeginsWithOneOf, BeginsAmong, BeginsApart, is_told, EndGives, RowGives}
+use Rattle.asn1_rs.specs.Structs.{any_number, among, is_one_of, have_none_in_common, numbers_disjoint, or_those}
+use Rattle.asn1_rs.specs.Structs.{numbers_of}
+use Rattle.asn1_rs.specs.Structs.{BeginsWithOneOf, BeginsAmong, BeginsApart, is_unambiguous, EndGives, RowGives}
 use Rattle.asn1_rs.specs.Structs.{ReadsRow, ReadsField}
 use Rattle.asn1_rs.specs.Laws.Structs.Fields.{IsLawfulField}
 
@@ -114,7 +115,7 @@ begins_behind rule (among ns) any_number octets b = tt
 begins_behind rule (among ns) (among ms) octets (m, b, h) = (m, b, second_list m ns ms h)
 
 -- and those that begin among numbers apart from these begin apart from these
-among_begins_apart : (rule : Rule) (own behind : Numbers) (octets : List ℕ) → are_apart own behind ≡ true →
+among_begins_apart : (rule : Rule) (own behind : Numbers) (octets : List ℕ) → numbers_disjoint own behind ≡ true →
     BeginsAmong rule behind octets → BeginsApart rule own octets
 among_begins_apart rule any_number (among []) octets apart (inl e) = e
 among_begins_apart rule any_number (among []) octets apart (inr (m, b, h)) = absurd (cc)
@@ -127,13 +128,14 @@ among_begins_apart rule (among ns) (among ms) octets apart (inr (m, b, h)) =
 
 -- that all are told says so of the others
 told_behind : (optional : Bool) (own numbers : Numbers) (behind : Bool) →
-    is_told optional own numbers behind ≡ true → behind ≡ true
+    is_unambiguous optional own numbers behind ≡ true → behind ≡ true
 told_behind optional own numbers true e = refl
 told_behind optional own numbers false e = absurd (cc)
 
 -- and of an optional field
-told_here : (optional : Bool) (own numbers : Numbers) (behind : Bool) → is_told optional own numbers behind ≡ true →
-    optional ≡ true → are_apart own numbers ≡ true
+told_here : (optional : Bool) (own numbers : Numbers) (behind : Bool) →
+    is_unambiguous optional own numbers behind ≡ true →
+    optional ≡ true → numbers_disjoint own numbers ≡ true
 told_here true own numbers true e o = e
 told_here true own numbers false e o = absurd (cc)
 told_here false own numbers behind e o = absurd (cc)
@@ -259,7 +261,7 @@ pub end_no_memory : (octets : List ℕ) (e : Error) → EndGives octets (Err e) 
 end_no_memory octets e g q = let t = g.1 in cc
 
 -- what another refusal becomes is another error
-other_becomes : (r : Refusal Error) (e : Error) → HeldIn (IsOther (λ (x y : Error). y ≡ x)) r → BecomesError r e →
+other_becomes : (r : Refusal Error) (e : Error) → ErrorIs (IsOther (λ (x y : Error). y ≡ x)) r → BecomesError r e →
     e ≢ errors.OutOfMemory
 other_becomes (truncated n) e h b q = cc
 other_becomes (refused x) e h b q = other x e h b q
@@ -277,7 +279,7 @@ other_becomes (failed x) e h b q = other x e h b q
 pub row_no_memory : {S R : Type 0} (first : List ℕ → Result (List ℕ × S) (Refusal Error) → Type 0)
     (others : List ℕ → Result R Error → Type 0) →
     ((octets : List ℕ) (answer : Result (List ℕ × S) (Refusal Error)) → first octets answer →
-    IfErr answer (HeldIn (IsOther (λ (x y : Error). y ≡ x)))) →
+    IfErr answer (ErrorIs (IsOther (λ (x y : Error). y ≡ x)))) →
     ((octets : List ℕ) (e : Error) → others octets (Err e) → e ≢ errors.OutOfMemory) →
     (octets : List ℕ) (e : Error) → RowGives first others octets (Err e) → e ≢ errors.OutOfMemory
 row_no_memory first others none none_others octets e (inl (r, g, b)) = other_becomes r e (none octets (Err r) g) b

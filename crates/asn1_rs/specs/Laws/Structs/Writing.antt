@@ -7,9 +7,9 @@ use Rattle.x690.specs.Identifiers.{Identifier}
 use Rattle.x690.specs.Strict.{header_octets}
 use Rattle.asn1_headers.specs.declared.error.Error.{Error}
 use Rattle.asn1_headers.specs.declared.error.SerializeError.{SerializeError}
-use Rattle.asn1_rs.specs.Fields.{FieldList, no_fields, field, TellsFields, fields_octets, FieldsRefuse}
+use Rattle.asn1_rs.specs.Fields.{FieldList, no_fields, field, SpecifiesFields, fields_octets, FieldsRefuse}
 use Rattle.asn1_rs.specs.Fields.{FieldsRefuseCount, fields_writing, TakenFields}
-use Rattle.asn1_rs.specs.Grammar.Form.{universal, header_of}
+use Rattle.asn1_rs.specs.Grammar.Form.{of_universal_class, header_of}
 use Rattle.asn1_rs.specs.Grammar.Item.{IsLawfulWriting}
 use Rattle.asn1_rs.specs.Laws.Forms.{both_by_value, whole_writable, behind_header}
 use Rattle.asn1_rs.specs.ToDer.{Writing, HasNone, IsWritable, whole_octets, IntoVector}
@@ -23,7 +23,7 @@ AreWritable list x = HasNone (FieldsRefuseCount list x) × HasNone (FieldsRefuse
 
 -- What is written of a row is told, follows from the value, and is the strict octets of a value that has such.
 pub record IsLawfulPuts {S : Type 0} (R : RowGrammar S) (list : FieldList S) : Type 0 where
-  pub tells_all : (x : S) → TellsFields list x
+  pub tells_all : (x : S) → SpecifiesFields list x
   pub by_value : (x y : S) → R.value x ≡ R.value y → fields_octets list x ≡ fields_octets list y
   pub strict : (x : S) (o : List ℕ) → R.Strict (R.value x) o → AreWritable list x × (fields_octets list x ≡ o)
   pub der_strict : (x : S) → R.IsDer (R.value x) → length (fields_octets list x) < 2 ^ 64 →
@@ -46,7 +46,7 @@ module _ {S T : Type 0} (row : S → T) where
   octets_by no_fields x = refl
   octets_by (field w of rest) x = ap (λ (z : List ℕ). whole_octets w (of (row x)) ++ z) (octets_by rest x)
 
-  pub tells_by : (list : FieldList T) (x : S) → TellsFields list (row x) → TellsFields (fields_by row list) x
+  pub tells_by : (list : FieldList T) (x : S) → SpecifiesFields list (row x) → SpecifiesFields (fields_by row list) x
   tells_by no_fields x t = t
   tells_by (field w of rest) x t = (t.0, tells_by rest x t.1)
 
@@ -157,7 +157,7 @@ module _ {S T : Type 0} (row : T → S) (R : RowGrammar S) (list : FieldList S) 
         );
     der_form = λ m d short.
         ∥∥₁_map (l.der_strict (row m) d (let e = ap length (by_row m) in omega (arith, e, short))) (λ s.
-        (universal true 16, (refl, subst (R.Strict (R.value (row m))) (sym (by_row m)) s)));
+        (of_universal_class true 16, (refl, subst (R.Strict (R.value (row m))) (sym (by_row m)) s)));
     der_writable = λ m d. struct_writable m (l.der_writable (row m) d);
   }
 

@@ -17,11 +17,11 @@ use Rattle.asn1_headers.specs.declared.error.Err.{Err as Refusal}
 use Rattle.asn1_headers.specs.declared.error.Err.TheVariants.{Incomplete as truncated, Error as refused, Failure as failed}
 use Rattle.asn1_headers.specs.declared.error.Error.{Error}
 use Rattle.asn1_headers.specs.declared.error.Error.TheVariants as errors
-use Rattle.asn1_headers.specs.Answers.{Front, Exactly, TellsMemory, IsOther}
+use Rattle.asn1_headers.specs.Answers.{HasPrefix, Exactly, TellsMemory, IsOther}
 use Rattle.asn1_rs.specs.Any.{parts_of, AnyGives}
 use Rattle.asn1_headers.specs.Ber.{max_depth}
 use Rattle.asn1_rs.specs.Checks.{CheckGives, IsCheck, has_number, is_constructed, ◌before◌}
-use Rattle.asn1_headers.specs.Error.{Converted, FlattenedTo, HeldIn}
+use Rattle.asn1_headers.specs.Error.{Converted, FlattenedTo, ErrorIs}
 use Rattle.asn1_rs.specs.Grammar.{IsOneBody, TakesBody, FormChecks, FormBodies, FormTakes, FormNumber, NoCheck, DerWord}
 use Rattle.asn1_rs.specs.Grammar.{Checks, made}
 use Rattle.asn1_rs.specs.Grammar.Form.{IsOneForm, IsOneValue, FitsElement, HasValues, IsStrict, WritesByValue}
@@ -32,14 +32,15 @@ use Rattle.asn1_rs.specs.Kinds.{IsExactCheck}
 use Rattle.asn1_rs.specs.Laws.Any.{refusal_lasts, element_lasts}
 use Rattle.asn1_rs.specs.Laws.Checks.{before_is, has_number_is, is_constructed_is, is_counted_is}
 use Rattle.asn1_rs.specs.Laws.Forms.{strict_written, both_by_value, whole_writable}
-use Rattle.asn1_rs.specs.Laws.Readers.{AreElements, none_now, front_more, speaks_fault, fault_no_memory, speaks_now}
+use Rattle.asn1_rs.specs.Laws.Readers.{AreLawfulElements, none_now, prefix_more, speaks_fault, fault_no_memory}
+use Rattle.asn1_rs.specs.Laws.Readers.{refusal_speaks_now}
 use Rattle.asn1_rs.specs.Laws.Readers.{converts_itself, der_violation_no_memory, der_elements}
 use Rattle.asn1_rs.specs.Laws.Tagged.{has_class_is, number_is, own_class, check_no_memory, under_tag, whole_front}
 use Rattle.asn1_rs.specs.Laws.Tagged.{front_whole, none_left, whole_is, whole_refused, whole_no_memory}
 use Rattle.asn1_rs.specs.Laws.Words.{word_one, strict_element, one_strict, strict_apart, strict_der_word, ber_one}
 use Rattle.asn1_rs.specs.Laws.Words.{ber_values, strict_ber}
-use Rattle.asn1_rs.specs.Tagged.{has_class, number_of}
-use Rattle.asn1_rs.specs.Tagged.Explicit.{ExplicitBody, ExplicitCheck, ExplicitForm, ExplicitTakes, ExplicitGives}
+use Rattle.asn1_rs.specs.Tagged.{has_class, as_u32}
+use Rattle.asn1_rs.specs.Tagged.Explicit.{ExplicitBody, ExplicitCheck, ExplicitForm, ExplicitConverts, ExplicitGives}
 use Rattle.asn1_rs.specs.Tagged.Explicit.{ExplicitWhole}
 use Rattle.asn1_rs.specs.Tagged.Explicit.{ExplicitCheckGives, explicit_grammar, explicit_identifier, tag_checks}
 use Rattle.asn1_rs.specs.ToDer.{Writing, whole_octets, whole_refuses}
@@ -134,7 +135,7 @@ module _ {V : Type 0} (class number : ℕ) where
     }
 
     -- They have the number of the tag.
-    pub explicit_number : FormNumber (ExplicitForm class number Form) (number_of number)
+    pub explicit_number : FormNumber (ExplicitForm class number Form) (as_u32 number)
     explicit_number = λ v i c f. ap (λ (z : Identifier). z.number) f.id_is ∙ sym (number_is number f.is_number)
 
     -- Lawful over a lawful type.
@@ -227,7 +228,7 @@ module _ {T V W E : Type 0} (class number : ℕ) (inner : W → T)
     Exactly IsTruncated G value (TellsMemory allocates from) octets answer) where
   -- the conversion is exact
   pub explicit_takes : (p : Parts) (answer : Result W E) → IsOctets p.content →
-      ExplicitTakes class number inner reads from p answer →
+      ExplicitConverts class number inner reads from p answer →
       TakesBody (ExplicitBody class number G) (λ w. value (inner w)) allocates from p answer
   explicit_takes p (Ok w) o t =
       record { tag = t.0; rest = t.1.0; inner = exact p.content (Ok (t.1.0, inner w)) o t.1.1 }
@@ -243,10 +244,10 @@ module _ {T V W E : Type 0} (class number : ℕ) (inner : W → T)
   Word = DerWord NoCheck (ExplicitWhole class number G)
 
   -- the element that was read is the one of any word at the front
-  word_body : (input more rest w r : List ℕ) (p : Parts) (v : V) → Front IsDerElement input p rest →
+  word_body : (input more rest w r : List ℕ) (p : Parts) (v : V) → HasPrefix IsDerElement input p rest →
       input ++ more ≡ w ++ r → Word w v → ExplicitWhole class number G p v
   word_body input more rest w r p v f h d =
-      let front = front_more IsDerElement input p rest more f in
+      let front = prefix_more IsDerElement input p rest more f in
       let same = der_elements.one.one front.word w (rest ++ more) r p d.0 front.fits d.1 (sym front.is ∙ h) in
       subst (λ (q : Parts). ExplicitWhole class number G q v) (sym same.1) d.3
 
@@ -283,7 +284,7 @@ module _ {T V W E : Type 0} (class number : ℕ) (inner : W → T)
       ]
 
 -- what tells of another refusal, told as an error
-told_no_memory : {E : Type 0} (from : Error → E → Type 0) (r : Refusal E) (e : E) → HeldIn (IsOther from) r →
+told_no_memory : {E : Type 0} (from : Error → E → Type 0) (r : Refusal E) (e : E) → ErrorIs (IsOther from) r →
     FlattenedTo (λ x y. y ≡ x) from r e → IsOther from e
 told_no_memory from (truncated n) e h f = inl (errors.Incomplete n, λ q. cc, f)
 told_no_memory from (refused x) e h f = subst (IsOther from) (sym f) h
@@ -293,9 +294,9 @@ told_no_memory from (failed x) e h f = subst (IsOther from) (sym f) h
 module _ {T W E : Type 0} (class number : ℕ) (inner : W → T) (reads : List ℕ → Result (List ℕ × T) (Refusal E) → Type 0)
     (from : Error → E → Type 0)
     (asks_no_memory : (octets : List ℕ) (answer : Result (List ℕ × T) (Refusal E)) → reads octets answer →
-    IfErr answer (HeldIn (IsOther from))) where
+    IfErr answer (ErrorIs (IsOther from))) where
   -- Where the value's reader does not report out of memory, the conversion does not.
-  pub explicit_takes_no_memory : (p : Parts) (e : E) → ExplicitTakes class number inner reads from p (Err e) →
+  pub explicit_takes_no_memory : (p : Parts) (e : E) → ExplicitConverts class number inner reads from p (Err e) →
       IsOther from e
   explicit_takes_no_memory p e (inl r) =
       check_no_memory (tag_checks class number) (tag_checks_are class number) from p r.0 e r.1 r.2
@@ -303,11 +304,11 @@ module _ {T W E : Type 0} (class number : ℕ) (inner : W → T) (reads : List �
 
   -- Nor does the reader by DER.
   pub explicit_der_no_memory : (input : List ℕ) (answer : Result (List ℕ × W) (Refusal E)) →
-      ExplicitGives class number inner reads from input answer → IfErr answer (HeldIn (IsOther from))
+      ExplicitGives class number inner reads from input answer → IfErr answer (ErrorIs (IsOther from))
   explicit_der_no_memory input (Ok x) g = tt
   explicit_der_no_memory input (Err r) (inl (fault, f, c)) =
       fault_no_memory from der_violation der_violation_no_memory fault r c
-  explicit_der_no_memory input (Err r) (inr (p, rest, f, inl t)) = subst (HeldIn (IsOther from)) (sym t.2.2)
+  explicit_der_no_memory input (Err r) (inr (p, rest, f, inl t)) = subst (ErrorIs (IsOther from)) (sym t.2.2)
       (check_no_memory (tag_checks class number) (tag_checks_are class number) from p t.0 t.2.0 t.1 t.2.1)
   explicit_der_no_memory input (Err r) (inr (p, rest, f, inr t)) =
       whole_no_memory reads from asks_no_memory p.content r t.1
@@ -321,7 +322,7 @@ none_is_memory (inr other) = other refl
 
 -- the check is exact, where that of the value is
 module _ (ElementOf : List ℕ → Parts → Type 0) (FaultOf : List ℕ → Fault → Type 0) (IsTruncated : List ℕ → Type 0)
-    (elements : AreElements ElementOf FaultOf IsTruncated) (refuses : Violation → Error)
+    (elements : AreLawfulElements ElementOf FaultOf IsTruncated) (refuses : Violation → Error)
     (other : (violation : Violation) → refuses violation ≢ errors.OutOfMemory)
     (check : CheckGives) (Check : Parts → Type 0) (inner : IsExactCheck check Check) where
   -- what the check of the value under the tag may answer
@@ -344,7 +345,7 @@ module _ (ElementOf : List ℕ → Parts → Type 0) (FaultOf : List ℕ → Fau
       exact p (Err e) (inl b) = λ c. is_counted_is.apart p e c.counted b
       exact p (Err e) (inr (m, (Err r, g, f))) = λ c.
           refusal_lasts ElementOf FaultOf IsTruncated elements refuses p.content r g [] p.content [] c.parts
-          (speaks_now (IsTruncated p.content) r) c.inner refl
+          (refusal_speaks_now (IsTruncated p.content) r) c.inner refl
       exact p (Err e) (inr (m, (Ok y, g, inl b))) = λ c.
           let same = element_lasts ElementOf FaultOf IsTruncated elements refuses p.content
           y g [] p.content [] c.parts c.inner refl in

@@ -13,7 +13,7 @@ use Rattle.asn1_rs.specs.Grammar.{IsOneBody, FormBodies, FormNumber, FormTakes, 
 use Rattle.asn1_rs.specs.Grammar.Form.{IsStrict, HasForm, WritesByValue, WritesForm}
 use Rattle.asn1_rs.specs.Grammar.Item.{ItemGrammar, IsLawfulItem, ber_words}
 use Rattle.asn1_headers.specs.Header.{identifier_of, is_same_identifier}
-use Rattle.asn1_rs.specs.Laws.Any.Writing.{same_parts, parts_same, both_true}
+use Rattle.asn1_rs.specs.Laws.Any.Writing.{identifiers_are_same, parts_same, both_true}
 use Rattle.asn1_rs.specs.Laws.Readers.{der_elements}
 use Rattle.asn1_rs.specs.Laws.Tagged.{whole_front}
 use Rattle.asn1_rs.specs.Laws.Tagged.Explicit.{explicit_one_form, explicit_fits, explicit_form_check, explicit_by_value}
@@ -52,7 +52,8 @@ pub headed_same : {V : Type 0} (g h : Header) (same : Bool) (v w : V) → IsTrue
 headed_same {V} g h same v w law = (
   λ t.
       let b = both_true (is_same_identifier g h) (same && true) t in
-      pair_same (identifier_of g, v) (identifier_of h, w) (same_parts g h b.0) (law.0 (both_true same true b.1).0),
+      pair_same (identifier_of g, v) (identifier_of h, w) (identifiers_are_same g h b.0)
+      (law.0 (both_true same true b.1).0),
   λ e.
       let i : is_same_identifier g h ≡ true = parts_same g h (ap (λ (z : Identifier × V). z.0) e) in
       let c : same ≡ true = law.1 (ap (λ (z : Identifier × V). z.1) e) in

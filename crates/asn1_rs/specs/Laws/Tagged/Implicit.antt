@@ -22,10 +22,10 @@ use Rattle.asn1_rs.specs.Laws.Checks.{before_is, has_number_is, is_counted_is}
 use Rattle.asn1_rs.specs.Laws.Readers.{der_elements}
 use Rattle.asn1_rs.specs.Laws.Tagged.{has_class_is, number_is, own_class, check_no_memory, under_tag}
 use Rattle.asn1_rs.specs.Laws.Words.{word_one, strict_der_word}
-use Rattle.asn1_rs.specs.Tagged.{has_class, number_of}
+use Rattle.asn1_rs.specs.Tagged.{has_class, as_u32}
 use Rattle.asn1_rs.specs.Tagged.Parser.{IsUnder}
 use Rattle.asn1_rs.specs.Tagged.Implicit.{under, implicit_checks, ImplicitBody, ImplicitCheck, ImplicitForm}
-use Rattle.asn1_rs.specs.Tagged.Implicit.{ImplicitTakes, ImplicitCheckGives, implicit_grammar, implicit_identifier}
+use Rattle.asn1_rs.specs.Tagged.Implicit.{ImplicitConverts, ImplicitCheckGives, implicit_grammar, implicit_identifier}
 use Rattle.asn1_rs.specs.ToDer.{Writing}
 use Rattle.asn1_rs.specs.Tagged.Writing.{implicit_under, tag_writing}
 
@@ -79,7 +79,7 @@ module _ {V : Type 0} (class number : ℕ) (Form : V → Identifier → List ℕ
   implicit_form_values P h = λ v i c f. h v f.own c f.form
 
   -- They have the number of the tag.
-  pub implicit_number : FormNumber (ImplicitForm class number Form) (number_of number)
+  pub implicit_number : FormNumber (ImplicitForm class number Form) (as_u32 number)
   implicit_number = λ v i c f. ap (λ (z : Identifier). z.number) f.id_is ∙ sym (number_is number f.is_number)
 
   -- where the value's strict parts are taken under the class of the tag, and have the tag number of its type
@@ -203,7 +203,7 @@ pub implicit_takes : {T V W E : Type 0} (class number : ℕ) (inner : W → T) (
     ((any : Any) (answer : Result T E) → IsOctets any.content.now → converts any answer →
     TakesBody Body value allocates from (parts_of any) answer) →
     (any : Any) (answer : Result W E) → IsOctets any.content.now →
-    ImplicitTakes class number inner own converts from any answer →
+    ImplicitConverts class number inner own converts from any answer →
     TakesBody (ImplicitBody class number own.0 Body) (λ w. value (inner w)) allocates from (parts_of any) answer
 implicit_takes class number inner own converts from Body value allocates exact any (Ok w) o (t, (other, u, g)) =
     record {
@@ -223,7 +223,7 @@ implicit_takes class number inner own converts from Body value allocates exact a
 pub implicit_takes_no_memory : {T W E : Type 0} (class number : ℕ) (inner : W → T) (own : Tag)
     (converts : Any → Result T E → Type 0) (from : Error → E → Type 0) →
     ((any : Any) (e : E) → converts any (Err e) → IsOther from e) → (any : Any) (e : E) →
-    ImplicitTakes class number inner own converts from any (Err e) → IsOther from e
+    ImplicitConverts class number inner own converts from any (Err e) → IsOther from e
 implicit_takes_no_memory class number inner own converts from asks_no_memory any e (inl r) =
     check_no_memory (implicit_checks class number) (implicit_checks_are class number) from (parts_of any) r.0 e r.1 r.2
 implicit_takes_no_memory class number inner own converts from asks_no_memory any e (inr (t, (other, u, g))) =

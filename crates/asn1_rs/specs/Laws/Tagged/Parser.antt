@@ -12,21 +12,22 @@ use Rattle.asn1_headers.specs.declared.error.Err.{Err as Refusal}
 use Rattle.asn1_headers.specs.declared.error.Error.{Error}
 use Rattle.asn1_headers.specs.declared.error.Error.TheVariants.{OutOfMemory}
 use Rattle.asn1_headers.specs.declared.tag.Tag.{Tag}
-use Rattle.asn1_headers.specs.Answers.{Front, Exactly, TellsMemory, IsOther}
+use Rattle.asn1_headers.specs.Answers.{HasPrefix, Exactly, TellsMemory, IsOther}
 use Rattle.asn1_rs.specs.Any.{parts_of, BeginsWithAny}
 use Rattle.asn1_rs.specs.Checks.{CheckGives}
-use Rattle.asn1_headers.specs.Error.{HeldIn}
+use Rattle.asn1_headers.specs.Error.{ErrorIs}
 use Rattle.asn1_rs.specs.Grammar.{ElementWord, NoCheck, TakesBody}
 use Rattle.asn1_headers.specs.Header.{identifier_of}
 use Rattle.asn1_headers.specs.Header.Reading.{refusal_of}
 use Rattle.asn1_rs.specs.Kinds.{IsExactCheck}
-use Rattle.asn1_rs.specs.Laws.Readers.{AreElements, none_now, front_more, speaks_fault, fault_no_memory, element_exact}
+use Rattle.asn1_rs.specs.Laws.Readers.{AreLawfulElements, none_now, prefix_more, speaks_fault, fault_no_memory}
+use Rattle.asn1_rs.specs.Laws.Readers.{element_exact}
 use Rattle.asn1_rs.specs.Laws.Readers.{element_no_memory, passes_all, all_pass}
 use Rattle.asn1_rs.specs.Laws.Tagged.{whole_is, whole_refused, whole_no_memory}
 use Rattle.asn1_rs.specs.Laws.Tagged.Implicit.{parts_under}
 use Rattle.asn1_rs.specs.Tagged.{ThenGives}
 use Rattle.asn1_rs.specs.Tagged.Headed.{HeadedBody, HeadedWhole, UnderBody, CheckedBody, headed_value}
-use Rattle.asn1_rs.specs.Tagged.Parser.{IsUnder, TakesExplicit, TakesWhole, TakesImplicit, ChecksAndConverts}
+use Rattle.asn1_rs.specs.Tagged.Parser.{IsUnder, TakesExplicit, TakesWholeContent, TakesImplicit, ChecksAndConverts}
 use Rattle.asn1_rs.specs.Tagged.Parser.{parser_header, inner_of}
 use Rattle.asn1_rs.specs.Traits.{ElementGives, PassesAll}
 
@@ -39,14 +40,15 @@ parser_value value = headed_value (λ t. identifier_of (parser_header t)) inner_
 -- the element that was read is the one of any word at the front
 word_body : {V : Type 0} (ElementOf : List ℕ → Parts → Type 0) → IsPrefixFree ElementOf →
     (Body : Parts → V → Type 0) (input more rest w r : List ℕ) (p : Parts) (v : V) →
-    Front ElementOf input p rest → input ++ more ≡ w ++ r → ElementWord ElementOf NoCheck Body w v → Body p v
+    HasPrefix ElementOf input p rest → input ++ more ≡ w ++ r → ElementWord ElementOf NoCheck Body w v → Body p v
 word_body ElementOf one Body input more rest w r p v f h d =
-    let front = front_more ElementOf input p rest more f in
+    let front = prefix_more ElementOf input p rest more f in
     let same = one.one front.word w (rest ++ more) r p d.0 front.fits d.1 (sym front.is ∙ h) in
     subst (λ (q : Parts). Body q v) (sym same.1) d.3
 
 module _ {K T V E : Type 0} (ElementOf : List ℕ → Parts → Type 0) (FaultOf : List ℕ → Fault → Type 0)
-    (IsTruncated : List ℕ → Type 0) (elements : AreElements ElementOf FaultOf IsTruncated) (refuses : Violation → Error)
+    (IsTruncated : List ℕ → Type 0) (elements : AreLawfulElements ElementOf FaultOf IsTruncated)
+    (refuses : Violation → Error)
     (reads : List ℕ → Result (List ℕ × T) (Refusal E) → Type 0) (from : Error → E → Type 0) (G : List ℕ → V → Type 0)
     (value : T → V) (allocates : Bool)
     (exact : (octets : List ℕ) (answer : Result (List ℕ × T) (Refusal E)) → IsOctets octets → reads octets answer →
@@ -86,7 +88,8 @@ module _ {K T V E : Type 0} (ElementOf : List ℕ → Parts → Type 0) (FaultOf
   -- One that wants the value to be all of the contents octets is exact, too, where one word alone begins an input.
   pub whole_parser_exact : IsPrefixFree G → (input : List ℕ)
       (answer : Result (List ℕ × TaggedParser K T E) (Refusal E)) →
-      ThenGives ElementOf FaultOf (refusal_of refuses) from (TakesWhole reads from) input answer → Exactly IsTruncated
+      ThenGives ElementOf FaultOf (refusal_of refuses) from (TakesWholeContent reads from) input answer →
+      Exactly IsTruncated
       (ElementWord ElementOf NoCheck (HeadedWhole G)) (parser_value value) (TellsMemory allocates from) input answer
   whole_parser_exact one input (Ok x) (any, rest, begins, (same, header, read)) = record {
     word = begins.front.word;
@@ -120,10 +123,10 @@ pub explicit_parser_no_memory : {K T E : Type 0} (ElementOf : List ℕ → Parts
     (refuses : Violation → Error) → ((violation : Violation) → refuses violation ≢ OutOfMemory) →
     (reads : List ℕ → Result (List ℕ × T) (Refusal E) → Type 0) (from : Error → E → Type 0) →
     ((octets : List ℕ) (answer : Result (List ℕ × T) (Refusal E)) → reads octets answer →
-    IfErr answer (HeldIn (IsOther from))) →
+    IfErr answer (ErrorIs (IsOther from))) →
     (input : List ℕ) (answer : Result (List ℕ × TaggedParser K T E) (Refusal E)) →
     ThenGives ElementOf FaultOf (refusal_of refuses) from (TakesExplicit reads) input answer →
-    IfErr answer (HeldIn (IsOther from))
+    IfErr answer (ErrorIs (IsOther from))
 explicit_parser_no_memory ElementOf FaultOf refuses other reads from asks_no_memory input (Ok x) g = tt
 explicit_parser_no_memory ElementOf FaultOf refuses other reads from asks_no_memory input (Err r) (inl (fault, f, c)) =
     fault_no_memory from refuses other fault r c
@@ -136,10 +139,10 @@ pub whole_parser_no_memory : {K T E : Type 0} (ElementOf : List ℕ → Parts �
     (refuses : Violation → Error) → ((violation : Violation) → refuses violation ≢ OutOfMemory) →
     (reads : List ℕ → Result (List ℕ × T) (Refusal E) → Type 0) (from : Error → E → Type 0) →
     ((octets : List ℕ) (answer : Result (List ℕ × T) (Refusal E)) → reads octets answer →
-    IfErr answer (HeldIn (IsOther from))) →
+    IfErr answer (ErrorIs (IsOther from))) →
     (input : List ℕ) (answer : Result (List ℕ × TaggedParser K T E) (Refusal E)) →
-    ThenGives ElementOf FaultOf (refusal_of refuses) from (TakesWhole reads from) input answer →
-    IfErr answer (HeldIn (IsOther from))
+    ThenGives ElementOf FaultOf (refusal_of refuses) from (TakesWholeContent reads from) input answer →
+    IfErr answer (ErrorIs (IsOther from))
 whole_parser_no_memory ElementOf FaultOf refuses other reads from asks_no_memory input (Ok x) g = tt
 whole_parser_no_memory ElementOf FaultOf refuses other reads from asks_no_memory input (Err r) (inl (fault, f, c)) =
     fault_no_memory from refuses other fault r c
@@ -202,7 +205,7 @@ checked_no_memory check checked converts from asks_no_memory any e (inr (c, g)) 
 
 module _ {K T E : Type 0} (ElementOf : List ℕ → Parts → Type 0) (FaultOf : List ℕ → Fault → Type 0)
     (refuses : Violation → Error) (own : Tag) (converts : Any → Result T E → Type 0) (from : Error → E → Type 0) where
-  module _ {V : Type 0} (IsTruncated : List ℕ → Type 0) (elements : AreElements ElementOf FaultOf IsTruncated)
+  module _ {V : Type 0} (IsTruncated : List ℕ → Type 0) (elements : AreLawfulElements ElementOf FaultOf IsTruncated)
       (Body : Parts → V → Type 0) (value : T → V) (allocates : Bool)
       (exact : (any : Any) (answer : Result T E) → IsOctets any.content.now → converts any answer →
       TakesBody Body value allocates from (parts_of any) answer) where
@@ -238,7 +241,7 @@ module _ {K T E : Type 0} (ElementOf : List ℕ → Parts → Type 0) (FaultOf :
       ((any : Any) (e : E) → converts any (Err e) → IsOther from e) →
       (input : List ℕ) (answer : Result (List ℕ × TaggedParser K T E) (Refusal E)) →
       ThenGives ElementOf FaultOf (refusal_of refuses) from (TakesImplicit own converts) input answer →
-      IfErr answer (HeldIn (IsOther from))
+      IfErr answer (ErrorIs (IsOther from))
   implicit_parser_no_memory other asks_no_memory input answer g =
       element_no_memory ElementOf FaultOf refuses other PassesAll (ConvertsToHeaded own converts) from all_pass
       (λ any e c. asks_no_memory c.0 e c.2) input answer

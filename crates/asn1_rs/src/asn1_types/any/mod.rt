@@ -2,6 +2,7 @@
 
 mod checks;
 mod integers;
+pub(crate) mod kept;
 pub(crate) mod texts;
 mod writing;
 
@@ -19,7 +20,10 @@ ghost use Rattle.asn1_rs.specs.Any.{parts_of, IsTheElement, IsDefiniteOr, HasCla
 ghost use Rattle.asn1_rs.specs.Any.{HandsOn};
 ghost use Rattle.asn1_headers.specs.Der.{DerContentGives};
 ghost use Rattle.asn1_headers.specs.Ber.{BerContentGives, max_depth};
+ghost use Rattle.asn1_rs.specs.Any.Decoded.{IsReadAgain, IsWordInHand};
 ghost use Rattle.asn1_rs.specs.Any.Value.{any_element};
+ghost use Rattle.asn1_rs.specs.Grammar.Item.{ber_words};
+ghost use Rattle.asn1_rs.specs.Traits.{BerGives};
 ghost use Rattle.asn1_rs.specs.Laws.AssertValid.{element_each_der};
 ghost use Rattle.asn1_rs.specs.Laws.Any.Value.{element_lawful, element_converts, element_checks};
 ghost use Rattle.asn1_headers.specs.declared.class.Class.TheVariants as classes;
@@ -29,9 +33,11 @@ ghost use Rattle.asn1_headers.specs.declared.tag.Tag.{Tag};
 use crate::ber::element_by_ber;
 use crate::der::element_by_der;
 use crate::kinds::assert_valid::DerElement;
-use crate::kinds::reading::LawfulCheckBy;
+use crate::kinds::decoding::DecodesBy;
+use crate::kinds::reading::{HasReader, LawfulCheckBy};
 use crate::kinds::{ElementKind, HasKind, LawfulConversion, LawfulElement};
 use crate::laws::assert_valid::assert_octets_valid;
+use crate::laws::{LawfulBody, LawfulDer};
 use crate::traits::{CheckDerConstraints, DerAutoDerive, DynTagged, FromAny, FromBer, FromDer};
 use asn1_headers::class::Class;
 use asn1_headers::error::{Err, Error, ParseResult};
@@ -153,6 +159,33 @@ impl<'a> Any<'a> {
             (form_of (length_of header.now)) 8 i.now result }
     {
         header.parse_ber_content(i)
+    }
+
+    /// The value that the element is by DER, its header and its contents octets: as [`FromDer::from_der`] reads the
+    /// octets that the element was read from, with its refusals.
+    ///
+    /// Of an element that was made by hand no more is said than what the type says of reading one.
+    pub fn decode_der<T>(self, alloc: Global) -> Result<T, Error>
+    where
+        T: LawfulDer<'a, Error> + HasReader + DecodesBy<'a, T::Reader>,
+        ensures exact { IsWordInHand IsDerElement T.grammar.Der T.grammar.value T.grammar.allocates
+            self.entry result }
+        ensures gives { IsReadAgain IsDerElement T.der_gives self.entry result }
+        ensures by_hand { T.decode_gives self.entry result }
+    {
+        T::decode_element(alloc, self)
+    }
+
+    /// The value that the element is by BER: as [`FromBer::from_ber`] reads the octets that the element was read from,
+    /// with its refusals. It is the conversion of the element.
+    pub fn decode_ber<T: LawfulBody<'a, Error>>(self, alloc: Global) -> Result<T, Error>
+        ensures exact { IsWordInHand (IsElement max_depth) (ber_words T.grammar) T.grammar.value
+            T.grammar.allocates self.entry result }
+        ensures gives { IsReadAgain (IsElement max_depth) (BerGives T.any_gives (λ e f. f ≡ e))
+            self.entry result }
+        ensures by_hand { T.any_gives self.entry result }
+    {
+        T::try_from_any(alloc, self)
     }
 
     /// Reads an element by DER, looks at its tag number and then at its class, and hands its contents octets to the

@@ -15,6 +15,7 @@ ghost use Rattle.asn1_headers.specs.Writer.{Wrote, MayRefuse};
 
 use crate::asn1_types::any::Any;
 use crate::kinds::assert_valid::DerElement;
+use crate::kinds::der_form::TellsDerElement;
 use crate::kinds::leaf::{ConvertsLeaf, LeafType};
 use crate::kinds::writing::{Piece, WritesElement};
 use crate::kinds::{ElementKind, HasKind, TagNumber};
@@ -219,6 +220,13 @@ impl<'a> ConvertsLeaf<'a> for Boolean {
     #[inline(always)]
     fn convert_leaf(_alloc: Global, any: Any<'a>) -> Result<Boolean, Error> {
         any.as_boolean()
+    }
+}
+
+/// Where its octet is 00 or ff (X.690 11.1).
+impl TellsDerElement for Boolean {
+    fn is_der_element(&self) -> bool {
+        self.value == 0 || self.value == 0xff
     }
 }
 

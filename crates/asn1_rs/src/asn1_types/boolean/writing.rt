@@ -2,7 +2,7 @@
 ghost use Rattle.std.specs.Prelude.{◌≡◌, ◌++◌, ℕ, List, false, length, Ok, true, IfOk, IfErr};
 ghost use Rattle.std.specs.Io.KnownBytes.{Appends};
 ghost use Rattle.asn1_rs.specs.Boolean.{boolean_number, boolean_leaf, truth_octets, raw_boolean, truth_header};
-ghost use Rattle.asn1_rs.specs.Boolean.{IsStrictTruth, truth_writing};
+ghost use Rattle.asn1_rs.specs.Boolean.{IsStrictTruthOctet, truth_writing};
 ghost use Rattle.asn1_headers.specs.Error.{tells_of_io};
 ghost use Rattle.asn1_rs.specs.Leaf.{leaf_element};
 ghost use Rattle.asn1_rs.specs.Laws.Boolean.{boolean_lawful, boolean_lawful_writing};
@@ -23,7 +23,7 @@ use std::alloc::Global;
 impl ToDer for Boolean {
     ghost writing = { truth_writing };
 
-    ghost raw_is_der = { λ x. IsStrictTruth x.value };
+    ghost raw_is_der = { λ x. IsStrictTruthOctet x.value };
 
     fn to_der_len(&self) -> Result<usize, Error>
         ensures { result ≡ Ok 3 }
@@ -66,9 +66,9 @@ impl ToDer for Boolean {
     fn write_der_raw<W: DerWrite>(&self, _alloc: Global, w: &mut W) -> SerializeResult<usize>
         ensures raw { Wrote (raw_boolean self.now) (W.state w.old) (W.state w.new) result }
         ensures failed { IfErr result (MayRefuse false 3) }
-        ensures der { IsStrictTruth self.now.value →
+        ensures der { IsStrictTruthOctet self.now.value →
             Wrote (truth_header ++ truth_octets self.now) (W.state w.old) (W.state w.new) result }
-        ensures refused { IsStrictTruth self.now.value →
+        ensures refused { IsStrictTruthOctet self.now.value →
             IfErr result (Refuses false (length (truth_header ++ truth_octets self.now))
             (Either (λ _. ⊥) (λ _. ⊥))) }
         ensures counted { IfOk result
@@ -82,9 +82,9 @@ impl ToDer for Boolean {
     fn to_der_vec_raw(&self, alloc: Global) -> SerializeResult<Vec<u8>>
         ensures raw { IfOk result (λ octets. octets.items ≡ raw_boolean self.now) }
         ensures failed { IfErr result (MayRefuse true 3) }
-        ensures der { IsStrictTruth self.now.value →
+        ensures der { IsStrictTruthOctet self.now.value →
             IfOk result (λ octets. octets.items ≡ truth_header ++ truth_octets self.now) }
-        ensures refused { IsStrictTruth self.now.value →
+        ensures refused { IsStrictTruthOctet self.now.value →
             IfErr result (VectorRefuses (length (truth_header ++ truth_octets self.now))
             (Either (λ _. ⊥) (λ _. ⊥))) }
         ensures memory { IfErr result (λ e. tells_of_io e ≡ false) }

@@ -6,7 +6,8 @@ ghost use Rattle.asn1_headers.specs.declared.error.Error.{Error};
 ghost use Rattle.asn1_rs.specs.Laws.EmbeddedPdv.Equal.{pdv_equal};
 ghost use Rattle.asn1_rs.specs.Any.{parts_of};
 ghost use Rattle.asn1_rs.specs.Checks.{but_text};
-ghost use Rattle.asn1_rs.specs.EmbeddedPdv.{AreParts, PdvGives, identification_of, pdv_constraints, pdv_element};
+ghost use Rattle.asn1_rs.specs.EmbeddedPdv.{IsIdentification, PdvGives, identification_of, pdv_constraints};
+ghost use Rattle.asn1_rs.specs.EmbeddedPdv.{pdv_element};
 ghost use Rattle.asn1_rs.specs.Laws.EmbeddedPdv.{pdv_checked, pdv_converts, pdv_lawful};
 ghost use Rattle.asn1_rs.specs.Leaf.{HasOneRefusalUpTo};
 ghost use Rattle.asn1_rs.specs.Traits.{OfParts};
@@ -115,7 +116,7 @@ impl LawfulCheckBy<ElementKind> for EmbeddedPdv<'_> {
 
 /// What an identification in hand holds are octets.
 fn assert_parts_valid(identification: &PdvIdentification<'_>)
-    ensures { AreParts (identification_of identification.now) }
+    ensures { IsIdentification (identification_of identification.now) }
 {
     match identification {
         PdvIdentification::Syntaxes {

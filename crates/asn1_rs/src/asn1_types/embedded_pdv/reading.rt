@@ -3,7 +3,7 @@ ghost use Rattle.std.specs.Prelude.{MatchResult};
 ghost use Rattle.asn1_rs.specs.Any.{parts_of};
 ghost use Rattle.asn1_rs.specs.EmbeddedPdv.{BeginsWithParts, BeginsWithTwo, BorrowsParts, HasInner, HasNoInner};
 ghost use Rattle.asn1_rs.specs.EmbeddedPdv.{HoldsElement, HoldsNone, Identifies, IsData, IsIdentified, NoData};
-ghost use Rattle.asn1_rs.specs.EmbeddedPdv.{NoElement, NotIdentified, NotTwo, PdvGives, SaysNone, has_tag};
+ghost use Rattle.asn1_rs.specs.EmbeddedPdv.{NoFirstElement, NotIdentified, NotTwo, PdvGives, SaysNone, has_context_tag};
 ghost use Rattle.asn1_rs.specs.EmbeddedPdv.{identification_of};
 
 use crate::asn1_types::any::Any;
@@ -20,7 +20,7 @@ use std::borrow::CowSlice;
 fn element_within(octets: &[u8]) -> Result<(&[u8], Any<'_>), Error>
     ensures { MatchResult result
         (λ x. BeginsWithParts octets.now (parts_of x.1) x.0.now)
-        (NoElement octets.now) }
+        (NoFirstElement octets.now) }
 {
     Ok(element_by_ber(octets)?)
 }
@@ -68,7 +68,7 @@ fn identification<'a>(inner: &Any<'a>) -> Result<PdvIdentification<'a>, Error>
 
 /// Refuses another class than context-specific, and then another tag number.
 fn assert_tag(any: &Any<'_>, number: u32) -> Result<(), Error>
-    ensures { has_tag number (parts_of any.now) result }
+    ensures { has_context_tag number (parts_of any.now) result }
 {
     any.assert_class_number(2)?;
     any.assert_number(Tag(number))

@@ -4,7 +4,7 @@
 //! (8.3.3). No octets say 0, and octets that could be left out say nothing.
 ghost use Rattle.std.specs.Prelude.{pos};
 ghost use Rattle.asn1_rs.specs.Integer.Machine.{MachineGives, unsigned_machine, signed_machine};
-ghost use Rattle.asn1_rs.specs.Integer.Octets.{HoldsOr, integer_octets};
+ghost use Rattle.asn1_rs.specs.Integer.Octets.{HasContentOr, integer_octets};
 
 use crate::asn1_types::integer::machine::MachineInt;
 use crate::asn1_types::integer::octets::Integer;
@@ -14,70 +14,70 @@ use std::alloc::Global;
 impl Integer<'static> {
     /// The strict contents octets of a `u8` (X.690 8.3.2, 8.3.3). Refused where memory is, with `OutOfMemory`.
     pub fn from_u8(alloc: Global, i: u8) -> Result<Integer<'static>, Error>
-        ensures { HoldsOr (pos i) result }
+        ensures { HasContentOr (pos i) result }
     {
         Integer::from(alloc, i)
     }
 
     /// The strict contents octets of a `u16` (X.690 8.3.2, 8.3.3). Refused where memory is, with `OutOfMemory`.
     pub fn from_u16(alloc: Global, i: u16) -> Result<Integer<'static>, Error>
-        ensures { HoldsOr (pos i) result }
+        ensures { HasContentOr (pos i) result }
     {
         Integer::from(alloc, i)
     }
 
     /// The strict contents octets of a `u32` (X.690 8.3.2, 8.3.3). Refused where memory is, with `OutOfMemory`.
     pub fn from_u32(alloc: Global, i: u32) -> Result<Integer<'static>, Error>
-        ensures { HoldsOr (pos i) result }
+        ensures { HasContentOr (pos i) result }
     {
         Integer::from(alloc, i)
     }
 
     /// The strict contents octets of a `u64` (X.690 8.3.2, 8.3.3). Refused where memory is, with `OutOfMemory`.
     pub fn from_u64(alloc: Global, i: u64) -> Result<Integer<'static>, Error>
-        ensures { HoldsOr (pos i) result }
+        ensures { HasContentOr (pos i) result }
     {
         Integer::from(alloc, i)
     }
 
     /// The strict contents octets of a `u128` (X.690 8.3.2, 8.3.3). Refused where memory is, with `OutOfMemory`.
     pub fn from_u128(alloc: Global, i: u128) -> Result<Integer<'static>, Error>
-        ensures { HoldsOr (pos i) result }
+        ensures { HasContentOr (pos i) result }
     {
         Integer::from(alloc, i)
     }
 
     /// The strict contents octets of an `i8` (X.690 8.3.2, 8.3.3). Refused where memory is, with `OutOfMemory`.
     pub fn from_i8(alloc: Global, i: i8) -> Result<Integer<'static>, Error>
-        ensures { HoldsOr i result }
+        ensures { HasContentOr i result }
     {
         Integer::from(alloc, i)
     }
 
     /// The strict contents octets of an `i16` (X.690 8.3.2, 8.3.3). Refused where memory is, with `OutOfMemory`.
     pub fn from_i16(alloc: Global, i: i16) -> Result<Integer<'static>, Error>
-        ensures { HoldsOr i result }
+        ensures { HasContentOr i result }
     {
         Integer::from(alloc, i)
     }
 
     /// The strict contents octets of an `i32` (X.690 8.3.2, 8.3.3). Refused where memory is, with `OutOfMemory`.
     pub fn from_i32(alloc: Global, i: i32) -> Result<Integer<'static>, Error>
-        ensures { HoldsOr i result }
+        ensures { HasContentOr i result }
     {
         Integer::from(alloc, i)
     }
 
     /// The strict contents octets of an `i64` (X.690 8.3.2, 8.3.3). Refused where memory is, with `OutOfMemory`.
     pub fn from_i64(alloc: Global, i: i64) -> Result<Integer<'static>, Error>
-        ensures { HoldsOr i result }
+        ensures { HasContentOr i result }
     {
         Integer::from(alloc, i)
     }
 
     /// The strict contents octets of an `i128` (X.690 8.3.2, 8.3.3). Refused where memory is, with `OutOfMemory`.
     pub fn from_i128(alloc: Global, i: i128) -> Result<Integer<'static>, Error>
-        ensures { HoldsOr i result }
+        ensures { HasContentOr i result }
     {
         Integer::from(alloc, i)
     }

@@ -1,11 +1,13 @@
 //! Integers of any size, by their contents octets (X.690 8.3).
-ghost use Rattle.std.specs.Prelude.{◌≡◌, ◌≤◌, false, length, None, pos, IfOk};
+ghost use Rattle.std.specs.Prelude.{◌≡◌, ◌≤◌, ◌↔◌, false, length, None, pos, IfOk, IsTrue};
 ghost use Rattle.x690.specs.Digits.{base_256_value};
+ghost use Rattle.x690.specs.Integers.{IsShortestInteger};
 ghost use Rattle.asn1_rs.specs.Any.{parts_of};
 ghost use Rattle.asn1_headers.specs.Header.{HasParts};
 ghost use Rattle.asn1_rs.specs.Integer.{integer_number, IntegerCheckGives};
 ghost use Rattle.asn1_rs.specs.Integer.Machine.{GivesBack};
-ghost use Rattle.asn1_rs.specs.Integer.Octets.{octets_held, integer_octets, any_integer_leaf, BorrowsOctets, HoldsOr};
+ghost use Rattle.asn1_rs.specs.Integer.Octets.{content_slice, integer_octets, any_integer_leaf, BorrowsOctets};
+ghost use Rattle.asn1_rs.specs.Integer.Octets.{HasContentOr};
 ghost use Rattle.asn1_rs.specs.Leaf.{LeafGives};
 ghost use Rattle.asn1_rs.specs.Laws.Integer.Octets.{any_integer_lawful, octets_equal};
 ghost use Rattle.asn1_rs.specs.LeafReading.{lent_reading};
@@ -16,6 +18,7 @@ ghost use Rattle.asn1_headers.specs.declared.length.Length.TheVariants as forms;
 use crate::asn1_types::any::Any;
 use crate::asn1_types::integer::check_integer;
 use crate::asn1_types::integer::machine::MachineInt;
+use crate::kinds::der_form::TellsDerElement;
 use crate::kinds::leaf::{ConvertsLeaf, LeafType};
 use crate::kinds::writing::WritesOctets;
 use crate::kinds::{ElementKind, HasKind, TagNumber};
@@ -25,7 +28,7 @@ use asn1_headers::error::Error;
 use asn1_headers::tag::Tag;
 use std::alloc::Global;
 use std::borrow::CowSlice;
-use x690::integers::natural_parts;
+use x690::integers::{has_redundant_ones, has_redundant_zeros, natural_parts};
 
 /// An integer of any size, as the contents octets that say it in two's complement (X.690 8.3).
 ///
@@ -49,7 +52,7 @@ impl<'a> Integer<'a> {
 
     /// The integer of these contents octets, as they are held.
     pub(crate) const fn of_cow(octets: CowSlice<'a, u8, Global>) -> Self
-        ensures { octets_held result ≡ octets.entry }
+        ensures { content_slice result ≡ octets.entry }
     {
         Integer { octets }
     }
@@ -78,7 +81,7 @@ impl Integer<'static> {
     ///
     /// Refused where memory is, with `OutOfMemory`.
     pub fn from<M: MachineInt>(alloc: Global, x: M) -> Result<Integer<'static>, Error>
-        ensures strict { HoldsOr (M.machine.number x) result }
+        ensures strict { HasContentOr (M.machine.number x) result }
         ensures back { IfOk result (λ i. GivesBack M.machine x (integer_octets i)) }
     {
         let mut octets = [0; 17];
@@ -97,7 +100,7 @@ impl Integer<'static> {
         b: [u8; N],
     ) -> Result<Integer<'static>, Error>
         requires { 1 ≤ N }
-        ensures { HoldsOr (pos (base_256_value b.entry)) result }
+        ensures { HasContentOr (pos (base_256_value b.entry)) result }
     {
         let (sign, digits) = natural_parts(&b);
         let mut octets = Vec::from_slice(alloc, sign)?;
@@ -129,6 +132,13 @@ impl<'a> Any<'a> {
     }
 }
 
+/// Whether there is an octet, and none that could be left out.
+fn is_shortest_integer(octets: &[u8]) -> bool
+    ensures { IsTrue result ↔ IsShortestInteger octets.now }
+{
+    !octets.is_empty() && !has_redundant_zeros(octets) && !has_redundant_ones(octets)
+}
+
 impl HasKind for Integer<'_> {
     type Kind = ElementKind;
 }
@@ -136,9 +146,9 @@ impl HasKind for Integer<'_> {
 impl LeafType for Integer<'_> {
     type Number = TagNumber<2>;
 
-    ghost reading = { lent_reading any_integer_leaf octets_held };
+    ghost reading = { lent_reading any_integer_leaf content_slice };
 
-    ghost exact = { lent_exact any_integer_leaf any_integer_lawful octets_held };
+    ghost exact = { lent_exact any_integer_leaf any_integer_lawful content_slice };
 
     fn assert_leaf_valid(&self) {
         assert_octets_valid(self.as_bytes());
@@ -166,6 +176,15 @@ impl WritesOctets for Integer<'_> {
     }
 
     ghost held_are = { leaf_written any_integer_leaf any_integer_lawful };
+}
+
+/// Where there is an octet, and none that could be left out (X.690 8.3.1, 8.3.2).
+impl TellsDerElement for Integer<'_> {
+    fn is_der_element(&self) -> bool {
+        let octets = self.as_bytes();
+        assert_octets_valid(octets);
+        is_shortest_integer(octets)
+    }
 }
 
 impl LawfulMember for Integer<'_> {

@@ -23,6 +23,7 @@ ghost use Rattle.asn1_rs.specs.Laws.Oid.{oid_checked, oid_converts, oid_equal};
 ghost use Rattle.asn1_rs.specs.Laws.Oid.{oid_lawful};
 
 use crate::asn1_types::any::Any;
+use crate::kinds::der_form::TellsDerElement;
 use crate::kinds::leaf::{ConvertsLeaf, LeafType};
 use crate::kinds::{ElementKind, HasKind, TagNumber};
 use crate::laws::LawfulMember;
@@ -30,6 +31,7 @@ use crate::laws::assert_valid::assert_octets_valid;
 use asn1_headers::error::Error;
 use std::alloc::Global;
 use std::borrow::CowSlice;
+use x690::shortest::are_shortest_arcs;
 
 /// An object identifier, or a relative one, by its contents octets, which are borrowed or owned (X.690 8.19, 8.20).
 ///
@@ -177,6 +179,15 @@ impl<'a> ConvertsLeaf<'a> for Oid<'a> {
     #[inline(always)]
     fn convert_leaf(_alloc: Global, any: Any<'a>) -> Result<Oid<'a>, Error> {
         any.as_oid()
+    }
+}
+
+/// Where it is absolute, and its contents octets are subidentifiers, each in the fewest octets (X.690 8.19.2).
+impl TellsDerElement for Oid<'_> {
+    fn is_der_element(&self) -> bool {
+        let octets = self.as_bytes();
+        assert_octets_valid(octets);
+        !self.relative && are_shortest_arcs(octets)
     }
 }
 

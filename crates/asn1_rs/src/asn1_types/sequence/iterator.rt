@@ -13,7 +13,7 @@ ghost use Rattle.x690.specs.Joined.{AreConcatenatedWords, IsConcatenation};
 ghost use Rattle.asn1_headers.specs.declared.error.Err.{Err as Refusal};
 ghost use Rattle.asn1_headers.specs.declared.content.BerParser.{BerParser};
 ghost use Rattle.asn1_headers.specs.Answers.{seen, TellsMemory, IsOther};
-ghost use Rattle.asn1_headers.specs.Error.{HeldIn};
+ghost use Rattle.asn1_headers.specs.Error.{ErrorIs};
 ghost use Rattle.asn1_headers.specs.declared.error.Error.{Error};
 ghost use Rattle.asn1_headers.specs.declared.error.Error.TheVariants as errors;
 ghost use Rattle.asn1_rs.specs.Lists.{ItemsGive, HasNoConcatenation};
@@ -21,7 +21,7 @@ ghost use Rattle.asn1_rs.specs.declared.asn1_types.any.Any.{Any};
 ghost use Rattle.asn1_rs.specs.Any.{parts_of, BerElementGives};
 ghost use Rattle.asn1_headers.specs.Ber.{max_depth, EndsWithin};
 ghost use Rattle.asn1_rs.specs.Sequence.Iterator.{octets_left, ReadsExactly, WalkSteps, IsWalk, IsWalkOf, TellsNoWord};
-ghost use Rattle.asn1_rs.specs.Sequence.Iterator.{TellsMemoryAlone, TellsNothing, IsMemory, ElementsGive};
+ghost use Rattle.asn1_rs.specs.Sequence.Iterator.{TellsMemoryAlone, ReportsNothing, IsMemory, ElementsGive};
 ghost use Rattle.asn1_rs.specs.Laws.Words.{ber_one};
 ghost use Rattle.asn1_rs.specs.Grammar.Item.{ber_words};
 
@@ -157,7 +157,7 @@ pub trait ReadsWords<'a, T, E: From<Error>>: ReadsItems<'a, T, E> {
     /// Where reading does not allocate, no refusal reports out of memory.
     ghost asks_no_memory: { Self.allocates ≡ false → (octets : List ℕ)
         (answer : Result (List ℕ × T) (Refusal E)) → Self.item_gives octets answer →
-        IfErr answer (HeldIn (IsOther E.from_gives)) };
+        IfErr answer (ErrorIs (IsOther E.from_gives)) };
 }
 
 impl<'a, T: LawfulBer<'a, E>, E: From<Error>> ReadsWords<'a, T, E> for BerParser {
@@ -265,11 +265,12 @@ pub fn indefinite_contents_are_walked()
         (answers : List (Result Any Error)) → BerElementGives input (Ok x) →
         (parts_of x.1).form ≡ indefinite → octets_left s ≡ (parts_of x.1).content →
         Yields (WalkSteps ElementsGive (λ e f. f ≡ e)) s answers t →
-        IsWalk (IsElement max_depth) parts_of TellsNothing (octets_left s) answers (octets_left t) }
+        IsWalk (IsElement max_depth) parts_of ReportsNothing (octets_left s) answers
+        (octets_left t) }
     ensures run { (input : List ℕ) (x : List ℕ × Any)
         (p : Run {S = SequenceIterator Any BerParser Error} {A = Result Any Error}
         (WalkSteps ElementsGive (λ e f. f ≡ e)))
         → BerElementGives input (Ok x) → (parts_of x.1).form ≡ indefinite
         → octets_left p.from ≡ (parts_of x.1).content
-        → IsWalkOf (IsElement max_depth) parts_of TellsNothing p }
+        → IsWalkOf (IsElement max_depth) parts_of ReportsNothing p }
 {}

@@ -14,13 +14,14 @@ ghost use Rattle.asn1_rs.specs.Laws.Lists.{list_by_der_exact, sequence_values};
 ghost use Rattle.asn1_rs.specs.Laws.Words.{ber_one};
 ghost use Rattle.asn1_rs.specs.Grammar.Item.{ber_words};
 
-use crate::asn1_types::lists::{FromItems, Listed, items_from_iter, push_item};
+use crate::asn1_types::lists::{DecidesEach, FromItems, Listed, items_from_iter, push_item};
 use crate::kinds::HasKind;
 use crate::kinds::collections::{SequenceKind, WritesInOrder};
 use crate::kinds::reading::{
     AnyForm, HasReader, LawfulBodyBy, LawfulCheckBy, LawfulDerBy, ListReader,
 };
 use crate::laws::assert_valid::States;
+use crate::laws::der_form::Decides;
 use crate::laws::{LawfulBer, LawfulCheck, LawfulDer};
 use crate::to_der::ToDer;
 use crate::traits::Tagged;
@@ -155,6 +156,12 @@ impl<T> Listed for SequenceOf<T> {
         T: ToDer,
     {
         self.items.count_each()
+    }
+}
+
+impl<T> DecidesEach for SequenceOf<T> {
+    fn decide_each<P: Decides<T>>(&self) -> bool {
+        self.items.decide_each::<P>()
     }
 }
 

@@ -10,7 +10,8 @@ ghost use Rattle.asn1_rs.specs.Laws.Words.{ber_one};
 ghost use Rattle.asn1_rs.specs.Grammar.Item.{ber_words};
 
 use crate::asn1_types::lists::{
-    FromItems, Listed, count_items, prepend_items, state_items, write_items,
+    DecidesEach, FromItems, Listed, count_items, decide_items, prepend_items, state_items,
+    write_items,
 };
 use crate::kinds::HasKind;
 use crate::kinds::collections::{SequenceKind, WritesInOrder};
@@ -18,6 +19,7 @@ use crate::kinds::reading::{
     AnyForm, HasReader, LawfulBodyBy, LawfulCheckBy, LawfulDerBy, ListReader,
 };
 use crate::laws::assert_valid::States;
+use crate::laws::der_form::Decides;
 use crate::laws::{LawfulBer, LawfulCheck, LawfulDer, LawfulMember};
 use crate::to_der::ToDer;
 use crate::traits::Tagged;
@@ -71,6 +73,12 @@ impl<T> Listed for Vec<T> {
         T: ToDer,
     {
         count_items(self.iter())
+    }
+}
+
+impl<T> DecidesEach for Vec<T> {
+    fn decide_each<P: Decides<T>>(&self) -> bool {
+        decide_items::<T, _, _, P>(self.iter())
     }
 }
 

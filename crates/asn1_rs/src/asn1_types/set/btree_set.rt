@@ -4,7 +4,7 @@ ghost use Rattle.std.proofs.Common.{lit<, refl};
 ghost use Rattle.std.specs.BTreeSet.{IsFromIterResult};
 ghost use Rattle.x690.specs.Identifiers.{IsTruncatedIdentifier};
 ghost use Rattle.asn1_headers.specs.Ber.{EndsWithin};
-ghost use Rattle.asn1_rs.specs.Lists.{IsListOr, ListTakes};
+ghost use Rattle.asn1_rs.specs.Lists.{IsListOr, ListConverts};
 ghost use Rattle.asn1_rs.specs.Traits.{DerGives, OfParts, PassesAll};
 ghost use Rattle.asn1_rs.specs.Set.{set_of, ascends};
 ghost use Rattle.asn1_headers.specs.declared.error.Error.{Error};
@@ -14,12 +14,14 @@ ghost use Rattle.asn1_rs.specs.Laws.Words.{ber_one};
 ghost use Rattle.asn1_rs.specs.Grammar.Item.{ber_words};
 
 use crate::asn1_types::lists::{
-    FromItems, Listed, PackedEncodings, count_items, encode_items, list_by_der, state_items,
+    DecidesEach, FromItems, Listed, PackedEncodings, count_items, decide_items, encode_items,
+    list_by_der, state_items,
 };
 use crate::kinds::HasKind;
 use crate::kinds::collections::{HasMembers, LawfulMembers, Once, SetKind, WritesAscending};
 use crate::kinds::reading::{ConstructedForm, LawfulBodyBy, LawfulCheckBy};
 use crate::laws::assert_valid::States;
+use crate::laws::der_form::Decides;
 use crate::laws::{LawfulBer, LawfulCheck, LawfulDer, LawfulMember};
 use crate::to_der::ToDer;
 use crate::traits::{FromDer, Tagged};
@@ -61,6 +63,12 @@ impl<T: Ord> Listed for BTreeSet<T> {
         T: ToDer,
     {
         count_items(self.iter())
+    }
+}
+
+impl<T: Ord> DecidesEach for BTreeSet<T> {
+    fn decide_each<P: Decides<T>>(&self) -> bool {
+        decide_items::<T, _, _, P>(self.iter())
     }
 }
 
@@ -110,7 +118,7 @@ impl<T: Ord + Drop> FromItems for BTreeSet<T> {
 // itself. By a reader that it names it passes these several times more, and nests less deep.
 impl<'a, T: FromDer<'a, E> + Ord + Drop, E: From<Error>> FromDer<'a, E> for BTreeSet<T> {
     ghost der_gives = { DerGives PassesAll
-        (OfParts (ListTakes (IsListOr 17) (λ items s. IsFromIterResult T.cmp items s) T.der_gives
+        (OfParts (ListConverts (IsListOr 17) (λ items s. IsFromIterResult T.cmp items s) T.der_gives
         E.from_gives))
         E.from_gives };
 

@@ -13,7 +13,8 @@ ghost use Rattle.asn1_rs.specs.Laws.Words.{ber_one};
 ghost use Rattle.asn1_rs.specs.Grammar.Item.{ber_words};
 
 use crate::asn1_types::lists::{
-    FromItems, Listed, PackedEncodings, count_items, encode_items, state_items,
+    DecidesEach, FromItems, Listed, PackedEncodings, count_items, decide_items, encode_items,
+    state_items,
 };
 use crate::kinds::HasKind;
 use crate::kinds::collections::{HasMembers, LawfulMembers, Once, SetKind, WritesAscending};
@@ -21,6 +22,7 @@ use crate::kinds::reading::{
     ConstructedForm, HasReader, LawfulBodyBy, LawfulCheckBy, LawfulDerBy, ListReader,
 };
 use crate::laws::assert_valid::States;
+use crate::laws::der_form::Decides;
 use crate::laws::{LawfulBer, LawfulCheck, LawfulDer, LawfulMember};
 use crate::to_der::ToDer;
 use crate::traits::Tagged;
@@ -63,6 +65,12 @@ impl<T: Eq + Hash> Listed for HashSet<T> {
         T: ToDer,
     {
         count_items(self.iter())
+    }
+}
+
+impl<T: Eq + Hash> DecidesEach for HashSet<T> {
+    fn decide_each<P: Decides<T>>(&self) -> bool {
+        decide_items::<T, _, _, P>(self.iter())
     }
 }
 

@@ -18,17 +18,19 @@ ghost use Rattle.asn1_rs.specs.Laws.Words.{ber_one, strict_ber};
 ghost use Rattle.asn1_rs.specs.Grammar.Item.{ber_words};
 
 use crate::asn1_types::lists::{
-    FromItems, Listed, PackedEncodings, encode_items, items_from_iter, push_item,
+    DecidesEach, FromItems, Listed, PackedEncodings, encode_items, items_from_iter, push_item,
 };
 use crate::asn1_types::set::prepend_set;
 use crate::kinds::assert_valid::AlwaysDerBy;
 use crate::kinds::collections::{Repeats, SetKind, WritesAscending};
+use crate::kinds::der_form::TellsDerBy;
 use crate::kinds::reading::{
     AnyForm, HasReader, LawfulBodyBy, LawfulCheckBy, LawfulDerBy, ListReader,
 };
 use crate::kinds::writing::{LawfulTaggedBy, LawfulWriteBy, TakesClassBy};
 use crate::kinds::{GrammarBy, HasKind, LawfulItemBy};
 use crate::laws::assert_valid::{AlwaysDer, OfDer, OfValue, States};
+use crate::laws::der_form::{Decides, TellsDer, WhetherDer};
 use crate::laws::{Grammar, LawfulBer, LawfulCheck, LawfulDer, LawfulItem, LawfulWrite};
 use crate::to_der::ToDer;
 use crate::traits::Tagged;
@@ -164,6 +166,12 @@ impl<T> Listed for SetOf<T> {
     }
 }
 
+impl<T> DecidesEach for SetOf<T> {
+    fn decide_each<P: Decides<T>>(&self) -> bool {
+        self.items.decide_each::<P>()
+    }
+}
+
 impl<T> WritesAscending for SetOf<T> {
     fn only_item(&self) -> Option<&T> {
         match self.as_slice() {
@@ -196,6 +204,12 @@ impl<T: LawfulItem> LawfulItemBy<SetKind<Repeats>> for SetOf<T> {
 
     fn value_by_kind(&self) {
         self.state_each::<OfValue>();
+    }
+}
+
+impl<T: TellsDer> TellsDerBy<SetKind<Repeats>> for SetOf<T> {
+    fn der_form_by_kind(&self) -> bool {
+        self.decide_each::<WhetherDer>()
     }
 }
 

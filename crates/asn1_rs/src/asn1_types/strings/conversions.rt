@@ -5,7 +5,7 @@ ghost use Rattle.x690.specs.Characters.{utf16_octets_of, ucs4_octets_of};
 ghost use Rattle.x690.specs.Sets.{AllIn, is_numeric, is_printable, is_visible};
 ghost use Rattle.asn1_rs.specs.Any.{parts_of};
 ghost use Rattle.asn1_rs.specs.CodedStrings.{coded_string_leaf};
-ghost use Rattle.asn1_rs.specs.Leaf.{LeafTakes};
+ghost use Rattle.asn1_rs.specs.Leaf.{LeafConverts};
 ghost use Rattle.asn1_rs.specs.Strings.{StringGives};
 
 use crate::asn1_types::any::Any;
@@ -166,28 +166,28 @@ impl<'a> Any<'a> {
 impl Any<'_> {
     /// The `BmpString`.
     pub fn bmpstring(self, alloc: Global) -> Result<BmpString<'static>, Error>
-        ensures { LeafTakes (coded_string_leaf 30 utf16_octets_of) (parts_of self.entry) result }
+        ensures { LeafConverts (coded_string_leaf 30 utf16_octets_of) (parts_of self.entry) result }
     {
         self.as_bmpstring(alloc)
     }
 
     /// The `BmpString`, of an element that stays.
     pub fn as_bmpstring(&self, alloc: Global) -> Result<BmpString<'static>, Error>
-        ensures { LeafTakes (coded_string_leaf 30 utf16_octets_of) (parts_of self.now) result }
+        ensures { LeafConverts (coded_string_leaf 30 utf16_octets_of) (parts_of self.now) result }
     {
         self.as_coded_string(alloc)
     }
 
     /// The `UniversalString`.
     pub fn universalstring(self, alloc: Global) -> Result<UniversalString<'static>, Error>
-        ensures { LeafTakes (coded_string_leaf 28 ucs4_octets_of) (parts_of self.entry) result }
+        ensures { LeafConverts (coded_string_leaf 28 ucs4_octets_of) (parts_of self.entry) result }
     {
         self.as_universalstring(alloc)
     }
 
     /// The `UniversalString`, of an element that stays.
     pub fn as_universalstring(&self, alloc: Global) -> Result<UniversalString<'static>, Error>
-        ensures { LeafTakes (coded_string_leaf 28 ucs4_octets_of) (parts_of self.now) result }
+        ensures { LeafConverts (coded_string_leaf 28 ucs4_octets_of) (parts_of self.now) result }
     {
         self.as_coded_string(alloc)
     }

@@ -9,7 +9,7 @@ ghost use Rattle.asn1_rs.specs.Laws.CodedStrings.{coded_string_lawful};
 ghost use Rattle.asn1_rs.specs.LeafReading.{copying_reading};
 ghost use Rattle.asn1_rs.specs.Laws.Leaf.{copying_exact};
 ghost use Rattle.asn1_rs.specs.Laws.Strings.{string_equal};
-ghost use Rattle.asn1_rs.specs.Leaf.{HaveOneRefusal, LeafTakes};
+ghost use Rattle.asn1_rs.specs.Leaf.{HaveOneRefusal, LeafConverts};
 
 use crate::asn1_types::any::Any;
 use crate::asn1_types::strings::kinds::{BmpString, StringKind};
@@ -30,7 +30,7 @@ impl Any<'_> {
         &self,
         alloc: Global,
     ) -> Result<String, Error>
-        ensures { LeafTakes
+        ensures { LeafConverts
             (coded_leaf (K.Number.TAG).0 (code_of K.Characters.octets_of) string_bytes)
             (parts_of self.now) result }
     {
@@ -49,7 +49,7 @@ impl Any<'_> {
         &self,
         alloc: Global,
     ) -> Result<CodedString<'static, K>, Error>
-        ensures { LeafTakes (coded_string_leaf (K.Number.TAG).0 K.Characters.octets_of)
+        ensures { LeafConverts (coded_string_leaf (K.Number.TAG).0 K.Characters.octets_of)
             (parts_of self.now) result }
     {
         let text = self.coded_text::<K>(alloc)?;

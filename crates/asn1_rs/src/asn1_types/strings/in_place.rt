@@ -1,17 +1,21 @@
 //! Strings whose contents octets are their text in UTF-8 (X.690 8.23, X.680 41).
-ghost use Rattle.std.specs.Prelude.{◌≡◌, ◌↔◌, false, IsOk, IfErr};
+ghost use Rattle.std.specs.Prelude.{◌≡◌, ◌↔◌, false, IsOk, IsTrue, IfErr};
 ghost use Rattle.asn1_headers.specs.declared.error.Error.TheVariants as errors;
 ghost use Rattle.asn1_rs.specs.Any.{parts_of};
 ghost use Rattle.asn1_rs.specs.Checks.{is_primitive};
 ghost use Rattle.asn1_rs.specs.Leaf.{HaveOneRefusal};
 ghost use Rattle.asn1_rs.specs.Laws.Leaf.{leaf_written};
 ghost use Rattle.asn1_rs.specs.Laws.Strings.{string_equal, string_exact, string_lawful};
-ghost use Rattle.asn1_rs.specs.Strings.{StringGives, string_leaf, string_reading, text_of};
+ghost use Rattle.asn1_rs.specs.Strings.{StringGives, string_leaf, string_reading, string_text};
 
 use crate::asn1_types::any::Any;
-use crate::asn1_types::strings::kinds::{Repertoire, StringKind, Utf8Kind};
+use crate::asn1_types::strings::kinds::{
+    DescriptorKind, GeneralKind, GraphicKind, Ia5Kind, NumericKind, PrintableKind, Repertoire,
+    StringKind, TeletexKind, Utf8Kind, VideotexKind, VisibleKind,
+};
 use crate::asn1_types::strings::{RestrictedString, TestValidCharset};
 use crate::kinds::assert_valid::DerElement;
+use crate::kinds::der_form::TellsDerElement;
 use crate::kinds::leaf::{ConvertsLeaf, LeafType};
 use crate::kinds::writing::WritesOctets;
 use crate::laws::LawfulMember;
@@ -80,7 +84,7 @@ impl<'a, K: StringKind<Characters: Repertoire>> ConvertsLeaf<'a> for RestrictedS
 }
 
 impl<K: StringKind<Characters: Repertoire>> WritesOctets for RestrictedString<'_, K> {
-    ghost held = { text_of };
+    ghost held = { string_text };
 
     fn contents_octets(&self) -> &[u8] {
         self.as_str().as_bytes()
@@ -94,6 +98,71 @@ impl<K: StringKind<Characters: Repertoire>> WritesOctets for RestrictedString<'_
 /// Each text is in DER form.
 impl DerElement for RestrictedString<'_, Utf8Kind> {
     ghost each_der = { λ v d. d };
+}
+
+impl<K: StringKind<Characters: Repertoire>> RestrictedString<'_, K> {
+    /// Whether the type has the text.
+    pub(crate) fn has_its_characters(&self) -> bool
+        ensures { IsTrue result ↔ K.Characters.IsText (string_text self.now) }
+    {
+        K::Characters::is_text(self.as_str().as_bytes())
+    }
+}
+
+// One impl over all kinds would overlap with that of `DerElement`, which those of UTF-8 have.
+
+impl TellsDerElement for RestrictedString<'_, DescriptorKind> {
+    fn is_der_element(&self) -> bool {
+        self.has_its_characters()
+    }
+}
+
+impl TellsDerElement for RestrictedString<'_, NumericKind> {
+    fn is_der_element(&self) -> bool {
+        self.has_its_characters()
+    }
+}
+
+impl TellsDerElement for RestrictedString<'_, PrintableKind> {
+    fn is_der_element(&self) -> bool {
+        self.has_its_characters()
+    }
+}
+
+impl TellsDerElement for RestrictedString<'_, TeletexKind> {
+    fn is_der_element(&self) -> bool {
+        self.has_its_characters()
+    }
+}
+
+impl TellsDerElement for RestrictedString<'_, VideotexKind> {
+    fn is_der_element(&self) -> bool {
+        self.has_its_characters()
+    }
+}
+
+impl TellsDerElement for RestrictedString<'_, Ia5Kind> {
+    fn is_der_element(&self) -> bool {
+        self.has_its_characters()
+    }
+}
+
+impl TellsDerElement for RestrictedString<'_, GraphicKind> {
+    fn is_der_element(&self) -> bool {
+        self.has_its_characters()
+    }
+}
+
+impl TellsDerElement for RestrictedString<'_, VisibleKind> {
+    fn is_der_element(&self) -> bool {
+        self.has_its_characters()
+    }
+}
+
+impl TellsDerElement for RestrictedString<'_, GeneralKind> {
+    fn is_der_element(&self) -> bool {
+        self.has_its_characters()
+    }
 }
 
 impl<K: StringKind<Characters: Repertoire>> LawfulMember for RestrictedString<'_, K> {

@@ -9,7 +9,7 @@ mod writing;
 ghost use Rattle.std.specs.Prelude.{◌≡◌, ◌↔◌, ℕ, List, IsOk, IfOk, IfErr, string_bytes};
 ghost use Rattle.std.specs.Cow.{IsBorrowedStr, IsOwnedStr};
 ghost use Rattle.asn1_headers.specs.declared.error.Error.TheVariants as errors;
-ghost use Rattle.asn1_rs.specs.Strings.{text_of, held_text};
+ghost use Rattle.asn1_rs.specs.Strings.{string_text, content_text};
 
 use crate::kinds::{ElementKind, HasKind};
 use asn1_headers::error::Error;
@@ -50,8 +50,8 @@ pub type CodedString<'a, K> = RestrictedString<'a, K, Coded>;
 impl<'a, K, F> RestrictedString<'a, K, F> {
     /// The string of this text, which it borrows. Whether its type has the text is not looked at.
     pub const fn new(s: &'a str) -> Self
-        ensures text { text_of result ≡ s.now }
-        ensures borrowed { IsBorrowedStr (held_text result) }
+        ensures text { string_text result ≡ s.now }
+        ensures borrowed { IsBorrowedStr (content_text result) }
     {
         RestrictedString {
             text: CowStr::Borrowed(s),
@@ -61,14 +61,14 @@ impl<'a, K, F> RestrictedString<'a, K, F> {
 
     /// The text.
     pub fn as_str(&self) -> &str
-        ensures { result.now ≡ text_of self.now }
+        ensures { result.now ≡ string_text self.now }
     {
         self.text.as_str()
     }
 
     /// A copy of the text. Refused only when out of memory, with `OutOfMemory`.
     pub fn string(&self, alloc: Global) -> Result<String, Error>
-        ensures text { IfOk result (λ s. string_bytes s ≡ text_of self.now) }
+        ensures text { IfOk result (λ s. string_bytes s ≡ string_text self.now) }
         ensures refused { IfErr result (λ e. e ≡ errors.OutOfMemory) }
     {
         Ok(String::from_str(alloc, self.as_str())?)
@@ -76,24 +76,24 @@ impl<'a, K, F> RestrictedString<'a, K, F> {
 }
 
 impl<'a, K, F> From<&'a str> for RestrictedString<'a, K, F> {
-    ghost from_gives = { λ s x. text_of x ≡ s.now };
+    ghost from_gives = { λ s x. string_text x ≡ s.now };
 
     /// The string of this text, which it borrows.
     fn from(s: &'a str) -> Self
-        ensures text { text_of result ≡ s.now }
-        ensures borrowed { IsBorrowedStr (held_text result) }
+        ensures text { string_text result ≡ s.now }
+        ensures borrowed { IsBorrowedStr (content_text result) }
     {
         RestrictedString::new(s)
     }
 }
 
 impl<K, F> From<String> for RestrictedString<'_, K, F> {
-    ghost from_gives = { λ s x. text_of x ≡ string_bytes s };
+    ghost from_gives = { λ s x. string_text x ≡ string_bytes s };
 
     /// The string of this text, which it owns.
     fn from(s: String) -> Self
-        ensures text { text_of result ≡ string_bytes s }
-        ensures owned { IsOwnedStr (held_text result) }
+        ensures text { string_text result ≡ string_bytes s }
+        ensures owned { IsOwnedStr (content_text result) }
     {
         RestrictedString {
             text: CowStr::Owned(s),

@@ -2,7 +2,8 @@
 ghost use Rattle.std.specs.Prelude.{◌≡◌};
 ghost use Rattle.asn1_headers.specs.Answers.{seen};
 ghost use Rattle.asn1_rs.specs.Tagged.{ThenByDer, ThenByBer};
-ghost use Rattle.asn1_rs.specs.Tagged.Parser.{TakesExplicit, TakesWhole, TakesImplicit, ChecksAndConverts, HasNumber};
+ghost use Rattle.asn1_rs.specs.Tagged.Parser.{TakesExplicit, TakesWholeContent, TakesImplicit, ChecksAndConverts};
+ghost use Rattle.asn1_rs.specs.Tagged.Parser.{TagCheckGives};
 ghost use Rattle.asn1_rs.specs.Tagged.Parser.{HasTag, Asks, Expects};
 ghost use Rattle.asn1_headers.specs.declared.class.Class.TheVariants as classes;
 ghost use Rattle.asn1_headers.specs.declared.tag.Tag.{Tag};
@@ -116,7 +117,7 @@ impl<E: From<Error>> TaggedParserBuilder<Explicit, E> {
     where
         T: FromDer<'a, E> + Drop,
         ensures { Expects (ThenByDer E.from_gives
-            (TakesWhole T.der_gives E.from_gives)) (HasTag self.class self.tag) E.from_gives
+            (TakesWholeContent T.der_gives E.from_gives)) (HasTag self.class self.tag) E.from_gives
             bytes.now (seen result) }
     {
         TaggedParser::<'a, Explicit, T, E>::parse_der(alloc, self.class, self.tag, bytes)
@@ -161,7 +162,7 @@ fn with_number<'a, Kind, T: Drop, E: From<Error>>(
     parser: TaggedParser<'a, Kind, T, E>,
     tag: Tag,
 ) -> ParseResult<'a, TaggedParser<'a, Kind, T, E>, E>
-    ensures { Asks (HasNumber tag) E.from_gives rest.now parser.entry (seen result) }
+    ensures { Asks (TagCheckGives tag) E.from_gives rest.now parser.entry (seen result) }
 {
     match parser.assert_tag(tag) {
         Ok(()) => Ok((rest, parser)),
@@ -184,7 +185,7 @@ where
     E: From<Error>,
     ensures { (number : Tag) × IntoTag.converts tag number
         × Expects (ThenByDer E.from_gives
-        (TakesWhole T.der_gives E.from_gives)) (HasNumber number) E.from_gives bytes.now
+        (TakesWholeContent T.der_gives E.from_gives)) (TagCheckGives number) E.from_gives bytes.now
         (seen result) }
 {
     let tag = tag.into();
@@ -207,7 +208,7 @@ where
     ensures { (number : Tag) × IntoTag.converts tag number
         × Expects (ThenByDer E.from_gives
         (TakesImplicit T.TAG (ChecksAndConverts T.check_gives T.any_gives E.from_gives)))
-        (HasNumber number) E.from_gives bytes.now (seen result) }
+        (TagCheckGives number) E.from_gives bytes.now (seen result) }
 {
     let tag = tag.into();
     match TaggedParser::<'a, Implicit, T, E>::from_der(alloc, bytes) {

@@ -22,6 +22,7 @@ use crate::asn1_types::tagged::Explicit;
 use crate::asn1_types::tagged::parser::TaggedParser;
 use crate::asn1_types::tagged::whole_contents::check_whole;
 use crate::der::element_by_der;
+use crate::laws::der_form::TellsDer;
 use crate::laws::{
     Grammar, LawfulBer, LawfulCheck, LawfulDer, LawfulItem, LawfulMember, LawfulWrite,
 };
@@ -55,6 +56,15 @@ impl<T: LawfulItem, E> LawfulItem for TaggedParser<'_, Explicit, T, E> {
         let _class = self.header.class();
         let _number = self.header.tag().0;
         self.inner.has_value();
+    }
+}
+
+/// Where its header is constructed, and the value is in DER form.
+impl<T: TellsDer, E> TellsDer for TaggedParser<'_, Explicit, T, E> {
+    fn is_der_form(&self) -> bool {
+        let _class = self.header.class();
+        let _number = self.header.tag().0;
+        self.header.is_constructed() && self.inner.is_der_form()
     }
 }
 

@@ -3,7 +3,9 @@ ghost use Rattle.std.specs.Prelude.{true};
 ghost use Rattle.asn1_headers.specs.declared.error.SerializeError.TheVariants.{InvalidClass};
 ghost use Rattle.asn1_headers.specs.Answers.{seen};
 ghost use Rattle.asn1_rs.specs.Any.{parts_of, BerElementGives};
-ghost use Rattle.asn1_rs.specs.Tagged.Explicit.{ExplicitTakes, ExplicitReads, ExplicitGives, ExplicitCheckGives};
+ghost use Rattle.asn1_rs.specs.Any.Decoded.{DecodesExplicit};
+ghost use Rattle.asn1_rs.specs.Laws.Any.Decoded.{explicit_reads};
+ghost use Rattle.asn1_rs.specs.Tagged.Explicit.{ExplicitConverts, ExplicitReads, ExplicitGives, ExplicitCheckGives};
 ghost use Rattle.asn1_rs.specs.Tagged.Explicit.{InnerTakes, tag_checks, explicit_grammar};
 ghost use Rattle.asn1_rs.specs.Laws.Tagged.{number_fits, same_beside_nothing};
 ghost use Rattle.asn1_rs.specs.Laws.Tagged.Explicit.{explicit_lawful, explicit_number, explicit_takes_class};
@@ -27,10 +29,12 @@ use crate::asn1_types::tagged::{Explicit, HasClass, TagMark, TaggedValue};
 use crate::ber::element_by_ber;
 use crate::der::element_by_der;
 use crate::header::{element_len, put_counted_header};
+use crate::kinds::decoding::DecodesBy;
 use crate::kinds::reading::{
     CheckBy, FromAnyBy, FromDerBy, LawfulBodyBy, LawfulCheckBy, LawfulDerBy,
 };
 use crate::laws::assert_valid::AlwaysDer;
+use crate::laws::der_form::TellsDer;
 use crate::laws::{
     Grammar, LawfulBer, LawfulBody, LawfulCheck, LawfulDer, LawfulItem, LawfulMember, LawfulTagged,
     LawfulWrite, TakesClass,
@@ -126,7 +130,7 @@ where
     type Refusal = E;
 
     ghost gives_by_kind = { OfParts
-        (ExplicitTakes CLASS TAG (λ t. t.inner) T.ber_gives E.from_gives) };
+        (ExplicitConverts CLASS TAG (λ t. t.inner) T.ber_gives E.from_gives) };
 
     fn convert_by_kind(alloc: Global, any: Any<'a>) -> Result<Self, E> {
         if let Err(e) = assert_tagged(CLASS, TAG, &any) {
@@ -149,7 +153,7 @@ impl<'a> Any<'a> {
     where
         T: FromBer<'a, E> + Drop,
         E: From<Error>,
-        ensures { ExplicitTakes CLASS TAG (λ t. t.inner) T.ber_gives E.from_gives
+        ensures { ExplicitConverts CLASS TAG (λ t. t.inner) T.ber_gives E.from_gives
             (parts_of self.now) result }
     {
         TaggedValue::try_from_any(alloc, without_raw_tag(self))
@@ -190,6 +194,24 @@ where
     }
 }
 
+/// So is an element in hand read, where missing octets of the value are told as `Error::Incomplete`.
+impl<'a, T, const CLASS: u8, const TAG: u32> DecodesBy<'a, TagMark<Explicit>>
+    for TaggedValue<T, Error, Explicit, CLASS, TAG>
+where
+    T: FromDer<'a, Error> + Drop,
+{
+    ghost decode_gives = { DecodesExplicit CLASS TAG (λ t. t.inner) T.der_gives };
+
+    fn decode_element(alloc: Global, any: Any<'a>) -> Result<Self, Error> {
+        match inner_by_der::<T, Error>(alloc, CLASS, TAG, &any) {
+            Ok(inner) => Ok(TaggedValue::explicit(inner)),
+            Err(e) => Err(Error::from(e)),
+        }
+    }
+
+    ghost decodes = { explicit_reads CLASS TAG (λ t. t.inner) T.der_gives };
+}
+
 impl<T: CheckDerConstraints, E, const CLASS: u8, const TAG: u32> CheckBy<TagMark<Explicit>>
     for TaggedValue<T, E, Explicit, CLASS, TAG> {
     ghost check_by_kind = { ExplicitCheckGives BerElementGives T.check_gives };
@@ -226,6 +248,15 @@ where
     fn is_der(&self) {
         let _number = self.tag().0;
         self.inner.is_der();
+    }
+}
+
+/// Where the class is one of the four, and the value is in DER form.
+impl<T: TellsDer, E, const CLASS: u8, const TAG: u32> TellsDer
+    for TaggedValue<T, E, Explicit, CLASS, TAG> {
+    fn is_der_form(&self) -> bool {
+        let _number = self.tag().0;
+        CLASS <= 3 && self.inner.is_der_form()
     }
 }
 

@@ -1,17 +1,19 @@
 //! Values under an implicit tag: the value's element, with this class and tag number in place of its
 //! own (X.690 8.14.3).
+ghost use Rattle.std.specs.Prelude.{◌≡◌};
 ghost use Rattle.x690.specs.Elements.{IsDerElement};
 ghost use Rattle.x690.specs.Faults.{DerElementFault};
 ghost use Rattle.asn1_headers.specs.declared.error.SerializeError.TheVariants.{InvalidClass};
 ghost use Rattle.asn1_rs.specs.declared.asn1_types.any.Any.{Any};
 ghost use Rattle.asn1_rs.specs.Any.{parts_of};
-ghost use Rattle.asn1_headers.specs.Header.Reading.{der_violation};
+ghost use Rattle.asn1_headers.specs.Header.Reading.{der_refusal, der_violation};
+ghost use Rattle.asn1_rs.specs.Laws.Any.Decoded.{converted_reads};
 ghost use Rattle.asn1_rs.specs.Laws.Readers.{unchecked_exact, element_no_memory, der_violation_no_memory, all_pass};
 ghost use Rattle.asn1_rs.specs.Laws.Tagged.{number_fits, same_beside_nothing};
 ghost use Rattle.asn1_rs.specs.Laws.Tagged.Implicit.{implicit_lawful, implicit_number, implicit_takes_class};
 ghost use Rattle.asn1_rs.specs.Laws.Tagged.Implicit.{implicit_takes, implicit_takes_no_memory, implicit_checked};
 ghost use Rattle.asn1_rs.specs.Optional.{IsWithoutRawTag};
-ghost use Rattle.asn1_rs.specs.Tagged.Implicit.{ImplicitBody, ImplicitTakes, ImplicitCheckGives, ChecksUnder};
+ghost use Rattle.asn1_rs.specs.Tagged.Implicit.{ImplicitBody, ImplicitConverts, ImplicitCheckGives, ChecksUnder};
 ghost use Rattle.asn1_rs.specs.Tagged.Implicit.{implicit_checks, implicit_grammar};
 ghost use Rattle.asn1_rs.specs.Traits.{DerGives, PassesAll};
 ghost use Rattle.asn1_rs.specs.Laws.Writing.{implicit_lawful_writing};
@@ -22,10 +24,12 @@ use crate::asn1_types::option::without_raw_tag;
 use crate::asn1_types::tagged::{HasClass, Implicit, TagMark, TaggedValue};
 use crate::der::element_by_der;
 use crate::header::{element_len, put_counted_header};
+use crate::kinds::decoding::DecodesBy;
 use crate::kinds::reading::{
     CheckBy, FromAnyBy, FromDerBy, LawfulBodyBy, LawfulCheckBy, LawfulDerBy,
 };
 use crate::laws::assert_valid::AlwaysDer;
+use crate::laws::der_form::TellsDer;
 use crate::laws::{
     Grammar, LawfulBody, LawfulCheck, LawfulDer, LawfulItem, LawfulMember, LawfulTagged,
     LawfulWrite, TakesClass,
@@ -108,7 +112,7 @@ where
 {
     type Refusal = E;
 
-    ghost gives_by_kind = { ImplicitTakes CLASS TAG (λ t. t.inner) T.TAG T.any_gives
+    ghost gives_by_kind = { ImplicitConverts CLASS TAG (λ t. t.inner) T.TAG T.any_gives
         E.from_gives };
 
     fn convert_by_kind(alloc: Global, any: Any<'a>) -> Result<Self, E> {
@@ -136,7 +140,7 @@ impl<'a> Any<'a> {
         T: FromAny<'a, Error = E> + Tagged,
         E: From<Error>,
         ensures { (bare : Any) × IsWithoutRawTag self.now bare ×
-            ImplicitTakes CLASS TAG (λ t. t.inner) T.TAG T.any_gives E.from_gives bare result }
+            ImplicitConverts CLASS TAG (λ t. t.inner) T.TAG T.any_gives E.from_gives bare result }
     {
         TaggedValue::try_from_any(alloc, without_raw_tag(self))
     }
@@ -149,7 +153,7 @@ where
     T: FromAny<'a, Error = E> + Tagged,
     E: From<Error>,
 {
-    ghost gives_by_reader = { DerGives PassesAll (ImplicitTakes CLASS TAG (λ t. t.inner) T.TAG
+    ghost gives_by_reader = { DerGives PassesAll (ImplicitConverts CLASS TAG (λ t. t.inner) T.TAG
         T.any_gives E.from_gives) E.from_gives };
 
     #[inline(always)]
@@ -160,6 +164,23 @@ where
             Err(e) => Err(Err::Error(e)),
         }
     }
+}
+
+/// So is an element in hand read.
+impl<'a, T, const CLASS: u8, const TAG: u32> DecodesBy<'a, TagMark<Implicit>>
+    for TaggedValue<T, Error, Implicit, CLASS, TAG>
+where
+    T: FromAny<'a, Error = Error> + Tagged,
+{
+    ghost decode_gives = { ImplicitConverts CLASS TAG (λ t. t.inner) T.TAG T.any_gives
+        (λ e f. f ≡ e) };
+
+    fn decode_element(alloc: Global, any: Any<'a>) -> Result<Self, Error> {
+        Self::try_from_any(alloc, any)
+    }
+
+    ghost decodes = { converted_reads IsDerElement DerElementFault der_refusal
+        (ImplicitConverts CLASS TAG (λ t. t.inner) T.TAG T.any_gives (λ e f. f ≡ e)) };
 }
 
 /// Checks an element under the tag number of the value's type.
@@ -216,6 +237,15 @@ where
     }
 }
 
+/// Where the class is one of the four, and the value is in DER form.
+impl<T: TellsDer + TakesClass<CLASS>, E, const CLASS: u8, const TAG: u32> TellsDer
+    for TaggedValue<T, E, Implicit, CLASS, TAG> {
+    fn is_der_form(&self) -> bool {
+        let _number = self.tag().0;
+        CLASS <= 3 && self.inner.is_der_form()
+    }
+}
+
 impl<T, E, const CLASS: u8, const TAG: u32> LawfulWrite for TaggedValue<T, E, Implicit, CLASS, TAG>
 where
     T: LawfulWrite + TakesClass<CLASS>,
@@ -258,7 +288,7 @@ where
     E: From<Error>,
 {
     ghost exact_by_reader = { λ input answer octets. unchecked_exact
-        (ImplicitTakes CLASS TAG (λ t. t.inner) T.TAG T.any_gives E.from_gives) E.from_gives
+        (ImplicitConverts CLASS TAG (λ t. t.inner) T.TAG T.any_gives E.from_gives) E.from_gives
         (ImplicitBody CLASS TAG (T.TAG).0 T.grammar.Body) (λ t. T.grammar.value t.inner)
         T.grammar.allocates (implicit_takes CLASS TAG (λ t. t.inner) T.TAG T.any_gives
         E.from_gives T.grammar.Body T.grammar.value T.grammar.allocates T.body_exact) input
@@ -266,7 +296,7 @@ where
 
     ghost no_memory_by_reader = { λ none. element_no_memory IsDerElement DerElementFault der_violation
         der_violation_no_memory PassesAll
-        (ImplicitTakes CLASS TAG (λ t. t.inner) T.TAG T.any_gives E.from_gives) E.from_gives
+        (ImplicitConverts CLASS TAG (λ t. t.inner) T.TAG T.any_gives E.from_gives) E.from_gives
         all_pass (implicit_takes_no_memory {W = Self} CLASS TAG (λ t. t.inner) T.TAG T.any_gives
         E.from_gives (T.body_no_memory none)) };
 }

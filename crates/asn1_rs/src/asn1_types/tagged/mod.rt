@@ -13,7 +13,7 @@ mod whole_contents;
 
 ghost use Rattle.std.specs.Prelude.{◌≡◌, ◌<◌, ◌∷◌, []};
 ghost use Rattle.std.proofs.Common.{lit<};
-ghost use Rattle.asn1_rs.specs.Tagged.{has_class, number_of};
+ghost use Rattle.asn1_rs.specs.Tagged.{has_class, as_u32};
 ghost use Rattle.asn1_rs.specs.Any.{parts_of};
 
 use crate::asn1_types::any::Any;
@@ -215,5 +215,5 @@ impl<T, E, Kind, const CLASS: u8, const TAG: u32> TaggedBy<TagMark<Kind>>
     for TaggedValue<T, E, Kind, CLASS, TAG> {
     const NUMBER: Tag = Tag(TAG);
 
-    ghost NUMBER = { record { 0 = number_of TAG } };
+    ghost NUMBER = { record { 0 = as_u32 TAG } };
 }

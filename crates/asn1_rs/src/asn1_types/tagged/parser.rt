@@ -11,7 +11,8 @@ ghost use Rattle.asn1_headers.specs.Ber.{max_depth};
 ghost use Rattle.asn1_headers.specs.Header.{class_of, is_constructed_of, tag_of, length_of, raw_tag_of, HasParts};
 ghost use Rattle.asn1_headers.specs.Header.Reading.{der_refusal, ber_refusal, KeepsIdentifier};
 ghost use Rattle.asn1_rs.specs.Tagged.{ThenByDer, ThenByBer};
-ghost use Rattle.asn1_rs.specs.Tagged.Parser.{IsUnder, TakesExplicit, TakesWhole, TakesImplicit, ChecksAndConverts};
+ghost use Rattle.asn1_rs.specs.Tagged.Parser.{IsUnder, TakesExplicit, TakesWholeContent, TakesImplicit};
+ghost use Rattle.asn1_rs.specs.Tagged.Parser.{ChecksAndConverts};
 ghost use Rattle.asn1_rs.specs.Tagged.Parser.{HasTag, Asks, Expects};
 ghost use Rattle.asn1_headers.specs.declared.error.Error.TheVariants as errors;
 ghost use Rattle.asn1_headers.specs.declared.length.Length.TheVariants as forms;
@@ -205,7 +206,7 @@ where
     E: From<Error>,
 {
     ghost der_gives = { ThenByDer E.from_gives
-        (TakesWhole T.der_gives E.from_gives) };
+        (TakesWholeContent T.der_gives E.from_gives) };
 
     fn from_der(alloc: Global, bytes: &'a [u8]) -> ParseResult<'a, Self, E> {
         let (rest, any) = converted(element_by_der(bytes))?;
@@ -341,7 +342,7 @@ impl<'a, T: Drop, E: From<Error>> TaggedParser<'a, Explicit, T, E> {
     where
         T: FromDer<'a, E>,
         ensures { Expects (ThenByDer E.from_gives
-            (TakesWhole T.der_gives E.from_gives))
+            (TakesWholeContent T.der_gives E.from_gives))
             (HasTag class tag) E.from_gives bytes.now (seen result) }
     {
         match Self::from_der(alloc, bytes) {

@@ -1,6 +1,6 @@
 //! GeneralizedTime (X.690 8.25, 11.7).
-ghost use Rattle.std.specs.Prelude.{◌≡◌, ◌≤◌, length, Some};
-ghost use Rattle.x690.specs.Times.{generalized_time_shown, generalized_time_text};
+ghost use Rattle.std.specs.Prelude.{◌≡◌, ◌≢◌, ◌≤◌, ◌↔◌, length, IsTrue, Some};
+ghost use Rattle.x690.specs.Times.{MostMilliseconds, generalized_time_shown, generalized_time_text};
 ghost use Rattle.asn1_rs.specs.Any.{parts_of};
 ghost use Rattle.asn1_rs.specs.Leaf.{LeafGives};
 ghost use Rattle.asn1_rs.specs.LeafReading.{leaf_reading};
@@ -14,6 +14,7 @@ ghost use Rattle.asn1_rs.specs.Laws.TimeOrder.{times_agree, times_tie, times_tot
 use super::{ASN1DateTime, no_time};
 use crate::asn1_types::any::Any;
 use crate::header::put_behind;
+use crate::kinds::der_form::TellsDerElement;
 use crate::kinds::leaf::{ConvertsLeaf, LeafType};
 use crate::kinds::writing::WritesElement;
 use crate::kinds::{ElementKind, HasKind, TagNumber};
@@ -115,6 +116,16 @@ impl<'a> Any<'a> {
     }
 }
 
+/// Whether there are no milliseconds, or from 1 to 999.
+fn is_strict_fraction(millisecond: Option<u16>) -> bool
+    ensures { IsTrue result ↔ MostMilliseconds 999 millisecond × (millisecond ≢ Some 0) }
+{
+    match millisecond {
+        None => true,
+        Some(count) => 1 <= count && count <= 999,
+    }
+}
+
 impl HasKind for GeneralizedTime {
     type Kind = ElementKind;
 }
@@ -192,6 +203,14 @@ impl WritesElement for GeneralizedTime {
 
     ghost written = { refusing_written generalized_time_leaf generalized_time_lawful
         (λ t. generalized_time_refused (moment_of t.0)) generalized_time_accepted };
+}
+
+/// Where the fields are those of a time that can be, with a year of four digits, a fraction other than zero where there
+/// is one, and the zone `Z` (X.690 11.7).
+impl TellsDerElement for GeneralizedTime {
+    fn is_der_element(&self) -> bool {
+        self.0.is_strict_moment() && self.0.year <= 9999 && is_strict_fraction(self.0.millisecond)
+    }
 }
 
 impl LawfulMember for GeneralizedTime {

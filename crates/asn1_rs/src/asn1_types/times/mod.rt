@@ -1,6 +1,6 @@
 //! Times (X.690 8.25, 11.7, 11.8).
-ghost use Rattle.std.specs.Prelude.{◌≡◌, ◌<◌, ◌≤◌, ◌^◌, length, Some};
-ghost use Rattle.x690.specs.Times.{MostMilliseconds, moment_text};
+ghost use Rattle.std.specs.Prelude.{◌≡◌, ◌<◌, ◌≤◌, ◌^◌, ◌↔◌, length, IsTrue, Some};
+ghost use Rattle.x690.specs.Times.{IsStrictMoment, MostMilliseconds, moment_text};
 ghost use Rattle.asn1_rs.specs.Checks.{but_text};
 ghost use Rattle.asn1_rs.specs.Leaf.{HaveOneRefusalUpTo};
 ghost use Rattle.asn1_rs.specs.Times.{moment_cmp, moment_of, IsMoment, IsZone, RefusesText, utc_time_leaf};
@@ -94,6 +94,20 @@ impl ASN1DateTime {
             millisecond,
             tz,
         }
+    }
+
+    /// Whether there are such a day and such a time of day, in the zone `Z`.
+    pub(crate) fn is_strict_moment(&self) -> bool
+        ensures { IsTrue result ↔ IsStrictMoment (moment_of self.now) }
+    {
+        1 <= self.month
+            && self.month <= 12
+            && 1 <= self.day
+            && self.day <= 31
+            && self.hour <= 23
+            && self.minute <= 59
+            && self.second <= 59
+            && matches!(self.tz, TimeZone::Z)
     }
 
     /// The fields, as texts of times are told of.

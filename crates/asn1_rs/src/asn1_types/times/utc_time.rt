@@ -13,6 +13,7 @@ ghost use Rattle.asn1_rs.specs.Laws.TimeOrder.{times_agree, times_tie, times_tot
 
 use super::{ASN1DateTime, no_time};
 use crate::asn1_types::any::Any;
+use crate::kinds::der_form::TellsDerElement;
 use crate::kinds::leaf::{ConvertsLeaf, LeafType};
 use crate::kinds::writing::WritesElement;
 use crate::kinds::{ElementKind, HasKind, TagNumber};
@@ -171,6 +172,14 @@ impl WritesElement for UtcTime {
 
     ghost written = { refusing_written utc_time_leaf utc_time_lawful
         (λ t. utc_time_refused (moment_of t.0)) utc_time_accepted };
+}
+
+/// Where the fields are those of a time that can be, with a year of two digits, no milliseconds, and the zone `Z`
+/// (X.690 11.8).
+impl TellsDerElement for UtcTime {
+    fn is_der_element(&self) -> bool {
+        self.0.is_strict_moment() && self.0.year <= 99 && self.0.millisecond.is_none()
+    }
 }
 
 impl LawfulMember for UtcTime {

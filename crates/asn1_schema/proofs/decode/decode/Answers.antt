@@ -3,7 +3,7 @@ use Rattle.std.specs.Borrow.{Bor}
 use Rattle.std.specs.Prelude.{Err}
 use Rattle.asn1_schema.specs.declared.decode.DecodeError.TheVariants as errors
 use Rattle.asn1_schema.specs.declared.fault.Fault.{Fault}
-use Rattle.asn1_schema.specs.Reading.{BeginsWord, ReadsFront, FaultHolds}
+use Rattle.asn1_schema.specs.Reading.{BeginsWord, ReadsPrefix, FaultHolds}
 use Rattle.asn1_schema.proofs.Depths.{fault_here}
 use Rattle.asn1_schema.proofs.SameErrors.{error_is}
 use Rattle.asn1_schema.proofs.Decoded.{not_decoded, no_depth_decodes, refused_for_good, still_truncated}
@@ -24,7 +24,7 @@ returns-in-Err-clause-fails c =
       refused = λ is d.
           let a = c.error_of.ensures.refused (error_is c.error_of.result errors.Refused is) in
           refused_for_good e table d of octets (no_depth_decodes e table depth of octets old new
-          (λ f l. subst (λ (z : Fault). FaultHolds depth z f → ReadsFront (BeginsWord e table f of octets) old new (Err z))
+          (λ f l. subst (λ (z : Fault). FaultHolds depth z f → ReadsPrefix (BeginsWord e table f of octets) old new (Err z))
           a.0 (c.in-Err.ensures.value f) l) d) a.1;
       too_deep = λ is.
           let a = c.error_of.ensures.too_deep (error_is c.error_of.result errors.TooDeep is) in

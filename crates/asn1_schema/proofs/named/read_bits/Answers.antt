@@ -5,7 +5,7 @@ use Rattle.asn1_schema.specs.declared.coding.Coding.{Coding}
 use Rattle.asn1_schema.specs.declared.schema.Kind.TheVariants as kinds
 use Rattle.asn1_schema.specs.declared.pieces.Sort.TheVariants as sorts
 use Rattle.asn1_schema.specs.Grammar.{of_bits}
-use Rattle.asn1_schema.specs.Reading.{rules_of, parts_of, IsOfKind, ReadsValue}
+use Rattle.asn1_schema.specs.Reading.{rules_of, head_parts, IsOfKind, ReadsValue}
 use Rattle.asn1_schema.specs.Pieces.{ArePieces, IsStringOf}
 use Rattle.asn1_schema.specs.Bits.{IsNamedPrimitive, IsNamedConstructed}
 use Rattle.asn1_schema.proofs.Taken.{leaf_read, no_value, reads_map}
@@ -14,7 +14,7 @@ use Rattle.asn1_schema.proofs.named.read_bits.Goals as goal
 
 pub returns-then-not-named : goal.returns-then-not-named
 returns-then-not-named c = λ nodes of d h.
-    let p = parts_of c.args.head c.args.content.now in
+    let p = head_parts c.args.head c.args.content.now in
     subst (λ (n : Bool). ReadsValue (IsOfKind c.args.coding nodes d of (kinds.Bits n) p) c.args.tape.now.items
     c.read_string.new.tape.items c.read_string.result) (sym c.if-not-named.true)
     (reads_map (IsStringOf c.args.coding sorts.Bits d p) (IsOfKind c.args.coding nodes d of (kinds.Bits false) p)
@@ -23,7 +23,7 @@ returns-then-not-named c = λ nodes of d h.
 
 pub returns-in-Ok : goal.returns-in-Ok
 returns-in-Ok c = λ nodes of d h.
-    let p = parts_of c.args.head c.args.content.now in
+    let p = head_parts c.args.head c.args.content.now in
     let a = c.in-Ok.ensures in
     subst (λ (n : Bool). ReadsValue (IsOfKind c.args.coding nodes d of (kinds.Bits n) p) c.args.tape.now.items
     c.put_item.new.tape.items c.put_item.result) (sym c.if-not-named.false)
@@ -34,7 +34,7 @@ returns-in-Ok c = λ nodes of d h.
 
 pub returns-in-Err : goal.returns-in-Err
 returns-in-Err c = λ nodes of d h.
-    let p = parts_of c.args.head c.args.content.now in
+    let p = head_parts c.args.head c.args.content.now in
     let named = c.if-not-named.false in
     subst (λ (n : Bool). ReadsValue {T = Unit {0}} (IsOfKind c.args.coding nodes d of (kinds.Bits n) p)
     c.args.tape.now.items c.args.tape.now.items (Err c.in-Err.e)) (sym named)
@@ -50,12 +50,12 @@ returns-in-Err c = λ nodes of d h.
 
 pub returns-in-Der : goal.returns-in-Der
 returns-in-Der c = λ nodes of d h v b. none_by_der c.args.coding (of_bits (rules_of c.args.coding)) (suc d)
-    (parts_of c.args.head c.args.content.now) b.0 c.in-Der.is (not-false c.args.head.constructed c.if-not-head.false) b.2
+    (head_parts c.args.head c.args.content.now) b.0 c.in-Der.is (not-false c.args.head.constructed c.if-not-head.false) b.2
 
 pub returns-in-Ber : goal.returns-in-Ber
 returns-in-Ber c = λ nodes of d h.
     let S = of_bits (rules_of c.args.coding) in
-    let p = parts_of c.args.head c.args.content.now in
+    let p = head_parts c.args.head c.args.content.now in
     let constructed = not-false c.args.head.constructed c.if-not-head.false in
     let z : suc d - 1 ≡ d = omega arith in
     subst (λ (n : Bool). ReadsValue (IsOfKind c.args.coding nodes d of (kinds.Bits n) p) c.args.tape.now.items

@@ -6,7 +6,7 @@ use Rattle.asn1_schema.specs.declared.tape.Item.{Item}
 use Rattle.x690.specs.Digits.{twos_complement_value}
 use Rattle.asn1_schema.specs.Values.{enumerated, leaf, Value}
 use Rattle.asn1_schema.proofs.Depths.{told}
-use Rattle.asn1_schema.specs.Reading.{IsListed, Judges, parts_of}
+use Rattle.asn1_schema.specs.Reading.{IsListed, Judges, head_parts}
 use Rattle.asn1_schema.specs.Writing.{primitive}
 use Rattle.asn1_schema.proofs.WrittenLeaves.{leaf_written, no_leaf, wrong_leaf, same_grew}
 use Rattle.asn1_schema.proofs.put_leaves.put_enumerated.Goals as goal
@@ -20,7 +20,7 @@ returns-in-Ok c =
     let content = c.shortest_integer-content.result.now in
     let P = λ (o : List ℕ). IsListed c.args.numbers.now c.args.extensible (primitive o) in
     let j = subst (λ (r : Result Item Fault). Judges (IsListed c.args.numbers.now c.args.extensible
-    (parts_of c.primitive_head.result content)) r) c.in-Ok.is c.enumerated_item.ensures in
+    (head_parts c.primitive_head.result content)) r) c.in-Ok.is c.enumerated_item.ensures in
     let h = j.2 in
     let same = integer_content_one_value h.0 m content h.3 c.shortest_integer-content.ensures in
     leaf_written P c.args.tape.now c.args.at c.args.buf.now c.put_at.new.buf content (enumerated m) c.put_at.result
@@ -38,7 +38,7 @@ returns-in-Err c = (
   λ is. let m = twos_complement_value c.in-Some.octets.now in
       let content = c.shortest_integer-content.result.now in
       let P = λ (o : List ℕ). IsListed c.args.numbers.now c.args.extensible (primitive o) in
-      let Q = IsListed c.args.numbers.now c.args.extensible (parts_of c.primitive_head.result content) in
+      let Q = IsListed c.args.numbers.now c.args.extensible (head_parts c.primitive_head.result content) in
       let j = told c.in-Err.e is ((v : Value) → Q v → ⊥)
       (subst (λ (r : Result Item Fault). Judges Q r) c.in-Err.is c.enumerated_item.ensures) in
       wrong_leaf P c.args.tape.now c.args.at (enumerated m) c.in-Some.ensures.1

@@ -1,5 +1,5 @@
 use Rattle.std.proofs.Common.{ℕ, suc, ◌≡◌, ◌≤◌, ◌+◌, ◌*◌, ◌++◌, List, length, min, true, false}
-use Rattle.asn1_schema.specs.Sound.{fields_told}
+use Rattle.asn1_schema.specs.Sound.{fields_unambiguous}
 use Rattle.x690.specs.Elements.{Parts}
 use Rattle.asn1_schema.specs.declared.schema.Field.{Field}
 use Rattle.asn1_schema.specs.Reading.{AreFieldsOf, AreItemsOf, IsBody}
@@ -64,7 +64,7 @@ abbrev pub invariant-read_fields-loop-field : goal.invariant-read_fields-loop-fi
 invariant-read_fields-loop-field l = record {
   done : List Field;
   parts : l.fields ≡ done ++ l.left;
-  told : fields_told false l.nodes l.unknown l.left ≡ true;
+  told : fields_unambiguous false l.nodes l.unknown l.left ≡ true;
   so_far : (d : ℕ) → l.depth ≤ d → SoFar (AreFieldsOf l.coding l.nodes d l.unknown l.left l.rest)
       (AreFieldsOf l.coding l.nodes d l.unknown l.fields l.octets) l.initial.tape.items l.tape.items;
 }

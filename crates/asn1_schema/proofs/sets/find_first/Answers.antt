@@ -1,5 +1,5 @@
 use Rattle.std.proofs.Common.{◌≡◌, refl}
-use Rattle.asn1_schema.specs.Reading.{rules_of, parts_of}
+use Rattle.asn1_schema.specs.Reading.{rules_of, head_parts}
 use Rattle.asn1_schema.proofs.Taken.{lawful_of, front_shorter}
 use Rattle.asn1_schema.proofs.TakenSets.{first_found, first_further, first_missed}
 use Rattle.asn1_schema.proofs.sets.find_first.Goals as goal
@@ -11,7 +11,7 @@ returns-then-is_tagged-clause-some c = λ es j. first_found c.args.coding c.args
 
 pub loop-tail-smaller : goal.loop-tail-smaller
 loop-tail-smaller c = front_shorter (rules_of c.args.coding) (lawful_of c.args.coding) (λ p v. ⊥) c.loop-tail.rest.now
-    c.in-Some.tail.now (parts_of c.in-Some.head c.in-Some.content.now) c.in-Some.ensures.some
+    c.in-Some.tail.now (head_parts c.in-Some.head c.in-Some.content.now) c.in-Some.ensures.some
 
 pub loop-tail-preserved : goal.loop-tail-preserved
 loop-tail-preserved c = λ es j. first_further c.args.coding c.args.nodes.now c.args.of c.loop-tail.rest.now

@@ -1,5 +1,5 @@
 use Rattle.std.proofs.Common.{◌≡◌, refl}
-use Rattle.asn1_schema.specs.Reading.{rules_of, parts_of}
+use Rattle.asn1_schema.specs.Reading.{rules_of, head_parts}
 use Rattle.asn1_schema.proofs.Taken.{lawful_of, front_shorter}
 use Rattle.asn1_schema.proofs.TakenSets.{order_truncated, order_broken, order_further}
 use Rattle.asn1_schema.proofs.sets.judge_order.Goals as goal
@@ -15,7 +15,7 @@ returns-then-not-may_follow-clause-no c = λ a. absurd (order_broken c.args.codi
 
 pub loop-rest-smaller : goal.loop-rest-smaller
 loop-rest-smaller c = front_shorter (rules_of c.args.coding) (lawful_of c.args.coding) (λ p v. ⊥) c.loop-rest.rest.now
-    c.in-Some.tail.now (parts_of c.in-Some.head c.in-Some._content.now) c.in-Some.ensures.some
+    c.in-Some.tail.now (head_parts c.in-Some.head c.in-Some._content.now) c.in-Some.ensures.some
 
 pub loop-rest-preserved : goal.loop-rest-preserved
 loop-rest-preserved c = order_further c.args.coding c.args.octets.now c.loop-rest.last c.loop-rest.rest.now

@@ -1,5 +1,5 @@
 use Rattle.std.proofs.Common.{refl}
-use Rattle.asn1_schema.specs.Reading.{rules_of, parts_of}
+use Rattle.asn1_schema.specs.Reading.{rules_of, head_parts}
 use Rattle.asn1_schema.proofs.Taken.{tagged_apart, lawful_of}
 use Rattle.asn1_schema.proofs.tagged.tagged_element.Goals as goal
 
@@ -8,7 +8,7 @@ returns-in_default-clause-none c = λ b. c.in_default.ensures.none b.word b.rest
 
 pub returns-then-not-is_tagged-clause-none : goal.returns-then-not-is_tagged-clause-none
 returns-then-not-is_tagged-clause-none c = tagged_apart (rules_of c.args.coding) (lawful_of c.args.coding) c.args.nodes.now c.args.of
-    c.args.octets.now c.in-Some.rest.now (parts_of c.in-Some.head c.in-Some.content.now) c.in-Some.ensures.some
+    c.args.octets.now c.in-Some.rest.now (head_parts c.in-Some.head c.in-Some.content.now) c.in-Some.ensures.some
     (λ h. let y = c.if-not-is_tagged.ensures.no h in absurd (cc))
 
 pub returns-clause-tagged : goal.returns-clause-tagged

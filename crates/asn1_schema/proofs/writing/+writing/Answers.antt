@@ -6,7 +6,7 @@ use Rattle.asn1_schema.specs.Grammar.{Word, Body, AreFields, AreSet, AreItems}
 use Rattle.asn1_schema.specs.Rules.{strict}
 use Rattle.asn1_schema.specs.Reading.{IsListed}
 use Rattle.asn1_schema.specs.Sound.{all_before}
-use Rattle.asn1_schema.specs.Writing.{before, Writes, WritesRow, WritesDefault, IsContent, IsFieldRow, IsFieldSet, IsList, IsArm, AreCounted, order_of, primitive}
+use Rattle.asn1_schema.specs.Writing.{before, Writes, WritesRow, WritesDefault, IsContentOfKind, IsFieldRow, IsFieldSet, IsList, IsArm, AreCounted, order_of, primitive}
 use Rattle.asn1_schema.proofs.Tags.{arm_before}
 use Rattle.asn1_schema.proofs.Taken.{bounds_order}
 use Rattle.asn1_schema.proofs.WrittenLeaves.{refused}
@@ -120,53 +120,53 @@ put_within-returns-in-Err t c = within_stopped c.args.nodes.now c.args.depth c.a
     c.args.tape.now c.args.at c.args.buf.now c.put_value.new.buf c.in-Err.e c.in-Err.ensures
 
 pub put_content-returns-in-Boolean : goal.put_content-returns-in-Boolean
-put_content-returns-in-Boolean t c = subst (λ (z : Kind). Writes (IsContent c.args.nodes.now c.args.depth z) c.args.tape.now c.args.at
+put_content-returns-in-Boolean t c = subst (λ (z : Kind). Writes (IsContentOfKind c.args.nodes.now c.args.depth z) c.args.tape.now c.args.at
     c.args.buf.now c.put_boolean.new.buf c.put_boolean.result) (sym c.in-Boolean.is)
     (c.put_boolean.ensures c.args.nodes.now c.args.depth)
 
 pub put_content-returns-in-Null : goal.put_content-returns-in-Null
-put_content-returns-in-Null t c = subst (λ (z : Kind). Writes (IsContent c.args.nodes.now c.args.depth z) c.args.tape.now c.args.at
+put_content-returns-in-Null t c = subst (λ (z : Kind). Writes (IsContentOfKind c.args.nodes.now c.args.depth z) c.args.tape.now c.args.at
     c.args.buf.now c.put_null.new.buf c.put_null.result) (sym c.in-Null.is)
     (c.put_null.ensures c.args.nodes.now c.args.depth)
 
 pub put_content-returns-in-Integer : goal.put_content-returns-in-Integer
-put_content-returns-in-Integer t c = subst (λ (z : Kind). Writes (IsContent c.args.nodes.now c.args.depth z) c.args.tape.now c.args.at
+put_content-returns-in-Integer t c = subst (λ (z : Kind). Writes (IsContentOfKind c.args.nodes.now c.args.depth z) c.args.tape.now c.args.at
     c.args.buf.now c.put_integer.new.buf c.put_integer.result) (sym c.in-Integer.is)
     (c.put_integer.ensures c.args.nodes.now c.args.depth)
 
 pub put_content-returns-in-Bits : goal.put_content-returns-in-Bits
-put_content-returns-in-Bits t c = subst (λ (z : Kind). Writes (IsContent c.args.nodes.now c.args.depth z) c.args.tape.now c.args.at
+put_content-returns-in-Bits t c = subst (λ (z : Kind). Writes (IsContentOfKind c.args.nodes.now c.args.depth z) c.args.tape.now c.args.at
     c.args.buf.now c.put_bits.new.buf c.put_bits.result) (sym c.in-Bits.is)
     (c.put_bits.ensures c.args.nodes.now c.args.depth)
 
 pub put_content-returns-in-Octets : goal.put_content-returns-in-Octets
-put_content-returns-in-Octets t c = subst (λ (z : Kind). Writes (IsContent c.args.nodes.now c.args.depth z) c.args.tape.now c.args.at
+put_content-returns-in-Octets t c = subst (λ (z : Kind). Writes (IsContentOfKind c.args.nodes.now c.args.depth z) c.args.tape.now c.args.at
     c.args.buf.now c.put_octets.new.buf c.put_octets.result) (sym c.in-Octets.is)
     (c.put_octets.ensures c.args.nodes.now c.args.depth)
 
 pub put_content-returns-in-Identifier : goal.put_content-returns-in-Identifier
-put_content-returns-in-Identifier t c = subst (λ (z : Kind). Writes (IsContent c.args.nodes.now c.args.depth z) c.args.tape.now c.args.at
+put_content-returns-in-Identifier t c = subst (λ (z : Kind). Writes (IsContentOfKind c.args.nodes.now c.args.depth z) c.args.tape.now c.args.at
     c.args.buf.now c.put_identifier.new.buf c.put_identifier.result) (sym c.in-Identifier.is)
     (c.put_identifier.ensures c.args.nodes.now c.args.depth)
 
 pub put_content-returns-in-Text : goal.put_content-returns-in-Text
-put_content-returns-in-Text t c = subst (λ (z : Kind). Writes (IsContent c.args.nodes.now c.args.depth z) c.args.tape.now c.args.at
+put_content-returns-in-Text t c = subst (λ (z : Kind). Writes (IsContentOfKind c.args.nodes.now c.args.depth z) c.args.tape.now c.args.at
     c.args.buf.now c.put_text.new.buf c.put_text.result) (sym c.in-Text.is)
     (c.put_text.ensures c.args.nodes.now c.args.depth)
 
 pub put_content-returns-in-Time : goal.put_content-returns-in-Time
-put_content-returns-in-Time t c = subst (λ (z : Kind). Writes (IsContent c.args.nodes.now c.args.depth z) c.args.tape.now c.args.at
+put_content-returns-in-Time t c = subst (λ (z : Kind). Writes (IsContentOfKind c.args.nodes.now c.args.depth z) c.args.tape.now c.args.at
     c.args.buf.now c.put_time.new.buf c.put_time.result) (sym c.in-Time.is)
     (c.put_time.ensures c.args.nodes.now c.args.depth)
 
 pub put_content-returns-in-Enumerated : goal.put_content-returns-in-Enumerated
-put_content-returns-in-Enumerated t c = subst (λ (z : Kind). Writes (IsContent c.args.nodes.now c.args.depth z) c.args.tape.now c.args.at
+put_content-returns-in-Enumerated t c = subst (λ (z : Kind). Writes (IsContentOfKind c.args.nodes.now c.args.depth z) c.args.tape.now c.args.at
     c.args.buf.now c.put_enumerated.new.buf c.put_enumerated.result) (sym c.in-Enumerated.is)
     (subst (λ (z : List ℤ). Writes (λ content. IsListed z c.in-Enumerated.extensible (primitive content)) c.args.tape.now
     c.args.at c.args.buf.now c.put_enumerated.new.buf c.put_enumerated.result) c.deref.ensures.value c.put_enumerated.ensures)
 
 pub put_content-returns-in-Sequence : goal.put_content-returns-in-Sequence
-put_content-returns-in-Sequence t c = subst (λ (z : Kind). Writes (IsContent c.args.nodes.now c.args.depth z) c.args.tape.now c.args.at
+put_content-returns-in-Sequence t c = subst (λ (z : Kind). Writes (IsContentOfKind c.args.nodes.now c.args.depth z) c.args.tape.now c.args.at
     c.args.buf.now c.put_row.new.buf c.put_row.result) (sym c.in-Sequence.is)
     (row_written c.args.nodes.now c.args.depth c.in-Sequence.fields c.in-Sequence.unknown c.args.tape.now c.args.at c.args.buf.now
     c.put_row.new.buf c.put_row.result
@@ -174,19 +174,19 @@ put_content-returns-in-Sequence t c = subst (λ (z : Kind). Writes (IsContent c.
     c.args.buf.now c.put_row.new.buf c.put_row.result) c.deref-in-Sequence.ensures.value c.put_row.ensures))
 
 pub put_content-returns-in-SequenceOf : goal.put_content-returns-in-SequenceOf
-put_content-returns-in-SequenceOf t c = subst (λ (z : Kind). Writes (IsContent c.args.nodes.now c.args.depth z) c.args.tape.now c.args.at
+put_content-returns-in-SequenceOf t c = subst (λ (z : Kind). Writes (IsContentOfKind c.args.nodes.now c.args.depth z) c.args.tape.now c.args.at
     c.args.buf.now c.put_list.new.buf c.put_list.result) (sym c.in-SequenceOf.is)
     (list_written c.args.nodes.now c.args.depth c.in-SequenceOf.inner c.args.tape.now c.args.at c.args.buf.now
     c.put_list.new.buf c.put_list.result c.put_list.ensures)
 
 pub put_content-returns-in-SetOf : goal.put_content-returns-in-SetOf
-put_content-returns-in-SetOf t c = subst (λ (z : Kind). Writes (IsContent c.args.nodes.now c.args.depth z) c.args.tape.now c.args.at
+put_content-returns-in-SetOf t c = subst (λ (z : Kind). Writes (IsContentOfKind c.args.nodes.now c.args.depth z) c.args.tape.now c.args.at
     c.args.buf.now c.put_list-in-SetOf.new.buf c.put_list-in-SetOf.result) (sym c.in-SetOf.is)
     (set_written c.args.nodes.now c.args.depth c.in-SetOf.inner c.args.tape.now c.args.at c.args.buf.now
     c.put_list-in-SetOf.new.buf c.put_list-in-SetOf.result c.put_list-in-SetOf.ensures)
 
 pub put_content-returns-in-Explicit : goal.put_content-returns-in-Explicit
-put_content-returns-in-Explicit t c = subst (λ (z : Kind). Writes (IsContent c.args.nodes.now c.args.depth z) c.args.tape.now c.args.at
+put_content-returns-in-Explicit t c = subst (λ (z : Kind). Writes (IsContentOfKind c.args.nodes.now c.args.depth z) c.args.tape.now c.args.at
     c.args.buf.now c.put_value.new.buf c.put_value.result) (sym c.in-Explicit.is)
     (explicit_written c.args.nodes.now c.args.depth c.in-Explicit.inner c.args.tape.now c.args.at c.args.buf.now
     c.put_value.new.buf c.put_value.result c.put_value.ensures)
@@ -311,7 +311,7 @@ put_items-loop-left-preserved t c = item_written c.args.nodes.now c.requires.sou
     (c.len.result - c.len-held.result) (omega (arith, c.len.ensures))
 
 pub put_content-returns-in-Set : goal.put_content-returns-in-Set
-put_content-returns-in-Set t c = subst (λ (z : Kind). Writes (IsContent c.args.nodes.now c.args.depth z) c.args.tape.now c.args.at
+put_content-returns-in-Set t c = subst (λ (z : Kind). Writes (IsContentOfKind c.args.nodes.now c.args.depth z) c.args.tape.now c.args.at
     c.args.buf.now c.put_set.new.buf c.put_set.result) (sym c.in-Set.is)
     (any_row_written c.args.nodes.now c.args.depth c.in-Set.fields c.in-Set.unknown c.args.tape.now c.args.at c.args.buf.now
     c.put_set.new.buf c.put_set.result

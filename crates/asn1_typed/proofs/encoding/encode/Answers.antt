@@ -7,11 +7,11 @@ use Rattle.asn1_schema.specs.declared.owned.OwnedTape.{OwnedTape}
 use Rattle.asn1_typed.specs.declared.encoding.Encoded.{Encoded}
 use Rattle.asn1_typed.specs.declared.encoding.Encoded.TheVariants as answers
 use Rattle.asn1_typed.specs.declared.input.Input.{Input}
-use Rattle.asn1_typed.specs.Encodings.{IsEncoded, IsWritten}
+use Rattle.asn1_typed.specs.Encodings.{IsEncoded, IsEncodedAs}
 use Rattle.asn1_typed.proofs.encoding.encode.Goals as goal
 
 encoded : {E : Type 0} (schema : Schema) (of : ℕ) (input : Input) (made : OwnedTape) (m : IsMadeFrom schema 64 of input.octets.now made)
-    (r : Result Encoded E) → IfOk r (IsWritten schema of (value_of m.kept)) → IfOk r (IsEncoded schema of input)
+    (r : Result Encoded E) → IfOk r (IsEncodedAs schema of (value_of m.kept)) → IfOk r (IsEncoded schema of input)
 encoded schema of input made m (Ok (answers.Value octets)) w =
     record { json = m.json; value = value_of m.kept; utf8 = m.utf8; is = m.is; denotes = m.denotes; word = w }
 encoded schema of input made m (Ok (answers.Refused line)) w = tt

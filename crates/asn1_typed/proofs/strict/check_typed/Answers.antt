@@ -1,6 +1,6 @@
 use Rattle.std.proofs.Common.{◌∙◌, ap, sym, subst, inl, inr}
 use Rattle.std.specs.Prelude.{Err}
-use Rattle.asn1_schema.specs.Differing.{HasNone, HasOther, IsNotStrict}
+use Rattle.asn1_schema.specs.Differing.{HasNoEncoding, HasOther, IsNotStrict}
 use Rattle.asn1_schema.specs.Grammar.{Word}
 use Rattle.asn1_schema.specs.Rules.{der}
 use Rattle.asn1_schema.specs.Tape.{value_of}
@@ -66,7 +66,7 @@ returns-clause-tells c =
       told.0,
       inr (inr (
         told.1,
-        subst (λ table. IsByDer table c.args.of octets (HasNone table 64 c.args.of)) c.deref.ensures.value
+        subst (λ table. IsByDer table c.args.of octets (HasNoEncoding table 64 c.args.of)) c.deref.ensures.value
             (value_of none.kept, none.word, none.holds),
       )),
       told.2,

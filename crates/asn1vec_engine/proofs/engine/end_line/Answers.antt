@@ -2,7 +2,7 @@ use Rattle.std.proofs.Common.{◌≡◌, ℕ, List, ◌++◌, ◌∷◌, [], ◌
 use Rattle.std.proofs.lemmas.Bool.{eqb-true}
 use Rattle.std.proofs.lemmas.List.Elements.{recursion_from_All}
 use Rattle.std.proofs.lemmas.Result.{on_ok_weaker, on_err_weaker}
-use Rattle.asn1vec_engine.specs.Engine.{Moves}
+use Rattle.asn1vec_engine.specs.Engine.{GainsAnswers}
 use Rattle.asn1vec_answers.specs.Answer.{IsAnswerLine}
 use Rattle.asn1vec_engine.specs.Outputs.{BeginsAnswer}
 use Rattle.asn1vec_engine.proofs.Appended.{on_err}
@@ -44,7 +44,7 @@ returns-clause-ok g c =
     let h = c.in_ok-write_answer.ensures.ok in
     let a = subst (λ (l : List ℕ). IsAnswerLine l h.0) c.as_slice.ensures.value h.1 in
     let told = λ (w : _). (g.W.DerWrite.state w).told in
-    subst (λ (l : List ℕ). Moves (told c.args.output.now) (told c.write_answer-2.new.output)
+    subst (λ (l : List ℕ). GainsAnswers (told c.args.output.now) (told c.write_answer-2.new.output)
     ((c.args.line.now.items ++ c.args.last.now) ++ 10 ∷ []) l) (sym c.clear.ensures.items)
     (moves_both (moves_more (10 ∷ []) (c.in_ok-keep.ensures.moves _))
     (moves_ended kept h.0 (recursion_from_All _ _ c.in_ok-keep.ensures.«open») a h.2))

@@ -8,7 +8,7 @@ use Rattle.std.proofs.lemmas.Nat.{pow-add}
 use Rattle.x690.specs.Arcs.{pieces_of, first_arc, second_arc, with_first_split, absolute_arcs, arcs_of}
 use Rattle.x690.specs.Arcs.{arcs_text}
 use Rattle.x690.specs.Digits.{base_128_value}
-use Rattle.x690.specs.Laws.Arcs.{IsSome, pieces_some, pieces_joined, first_pair_is, split_but_zero}
+use Rattle.x690.specs.Laws.Arcs.{IsNonEmptyPiece, pieces_some, pieces_joined, first_pair_is, split_but_zero}
 use Rattle.x690.specs.Laws.StrictIdentifiers.{value_lt}
 
 -- the text of each arc, and an octet more for each
@@ -47,7 +47,7 @@ piece_some (digit ∷ digits) some = omega arith
 
 -- arcs, the first of which is not more than what its piece says
 pieces_fit : (arc : ℕ) (piece : List ℕ) (pieces : List (List ℕ)) → arc ≤ base_128_value piece → arc < 2 ^ 64 →
-    All IsSome (piece ∷ pieces) → AreSmall (map base_128_value pieces) →
+    All IsNonEmptyPiece (piece ∷ pieces) → AreSmall (map base_128_value pieces) →
     room (arc ∷ map base_128_value pieces) ≤ 4 * length (concat (piece ∷ pieces))
 pieces_fit arc piece [] most small some others =
     omega (
@@ -66,14 +66,15 @@ pieces_fit arc piece (next ∷ pieces) most small some others =
           (λ k d h. some (suc k) d (omega arith)) (λ k d h. others (suc k) d (omega arith)),
     )
 
-all_fit : (pieces : List (List ℕ)) → All IsSome pieces → AreSmall (map base_128_value pieces) →
+all_fit : (pieces : List (List ℕ)) → All IsNonEmptyPiece pieces → AreSmall (map base_128_value pieces) →
     room (map base_128_value pieces) ≤ 4 * length (concat pieces)
 all_fit [] some small = omega arith
 all_fit (piece ∷ pieces) some small =
     pieces_fit (base_128_value piece) piece pieces (omega arith) (small 0 0 (omega arith)) some
     (λ k d h. small (suc k) d (omega arith))
 
-split_fit : (pieces : List (List ℕ)) → All IsSome pieces → AreSmall (with_first_split (map base_128_value pieces)) →
+split_fit : (pieces : List (List ℕ)) → All IsNonEmptyPiece pieces →
+    AreSmall (with_first_split (map base_128_value pieces)) →
     room (with_first_split (map base_128_value pieces)) ≤ 4 * length (concat pieces) + 2
 split_fit [] some small = omega arith
 split_fit (piece ∷ pieces) some small =

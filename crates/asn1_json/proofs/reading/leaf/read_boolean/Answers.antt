@@ -1,7 +1,7 @@
 use Rattle.std.proofs.Common.{◌∙◌, ap, sym, refl, []}
 use Rattle.json.specs.Value.{value_view}
 use Rattle.asn1_schema.specs.declared.schema.Kind.TheVariants as kinds
-use Rattle.asn1_schema.specs.Values.{Leaf}
+use Rattle.asn1_schema.specs.Values.{LeafValue}
 use Rattle.asn1_schema.specs.Values as values
 use Rattle.asn1_json.proofs.Views.{truth_view}
 use Rattle.asn1_json.proofs.MadeLeaves.{put_leaf, no_leaf, same_truth}

@@ -4,7 +4,7 @@ use Rattle.json.specs.Json.{Json}
 use Rattle.json.specs.Value.{value_view}
 use Rattle.asn1_words.specs.Words.{integer_text}
 use Rattle.asn1_schema.specs.declared.schema.Kind.TheVariants as kinds
-use Rattle.asn1_schema.specs.Values.{Leaf}
+use Rattle.asn1_schema.specs.Values.{LeafValue}
 use Rattle.asn1_schema.specs.Values as values
 use Rattle.asn1_json.specs.DenotedLeaves.{DenotesListed}
 use Rattle.asn1_json.specs.Outcomes.{ReadsLeaf}

@@ -11,7 +11,7 @@ use Rattle.std.proofs.Common.{◌≡◌, ◌∙◌, ap, sym, refl, ℕ, ℤ, ◌
 use Rattle.x690.specs.Digits.{twos_complement_value}
 use Rattle.json.specs.Json.{string}
 use Rattle.asn1_schema.specs.declared.schema.Kind.TheVariants as kinds
-use Rattle.asn1_schema.specs.Values.{Leaf}
+use Rattle.asn1_schema.specs.Values.{LeafValue}
 use Rattle.asn1_schema.specs.Values as values
 use Rattle.asn1_json.specs.Types.{labels_at}
 use Rattle.asn1_json.proofs.MadeLeaves.{put_leaf, no_leaf}

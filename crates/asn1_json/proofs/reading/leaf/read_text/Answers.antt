@@ -1,7 +1,7 @@
 use Rattle.std.proofs.Common.{◌∙◌, ap, sym, refl, subst, []}
 use Rattle.json.specs.Value.{value_view}
 use Rattle.asn1_schema.specs.declared.schema.Kind.TheVariants as kinds
-use Rattle.asn1_schema.specs.Values.{Leaf}
+use Rattle.asn1_schema.specs.Values.{LeafValue}
 use Rattle.asn1_schema.specs.Values as values
 use Rattle.asn1_json.specs.DenotedLeaves.{DenotesText}
 use Rattle.asn1_json.proofs.Views.{string_view}

@@ -2,7 +2,7 @@ use Rattle.std.proofs.Common.{◌≡◌, ◌∙◌, ap, sym, refl, subst, [], en
 use Rattle.x690.specs.Octets.{IsOctets}
 use Rattle.json.specs.Value.{value_view}
 use Rattle.asn1_schema.specs.declared.schema.Kind.TheVariants as kinds
-use Rattle.asn1_schema.specs.Values.{Leaf}
+use Rattle.asn1_schema.specs.Values.{LeafValue}
 use Rattle.asn1_schema.specs.Values as values
 use Rattle.asn1_json.proofs.Views.{string_view}
 use Rattle.asn1_json.proofs.MadeLeaves.{put_leaf, no_leaf, some_is, none_is, one_said, none_said}

@@ -1,8 +1,8 @@
 use Rattle.std.proofs.Common.{◌≡◌, ◌*◌, ◌+◌, ℕ, Option, List, map, take, Some}
 use Rattle.json.specs.Value.{items_of, members_view, value_view}
 use Rattle.asn1_json.specs.Denotes.{Denotes, DenoteItems}
-use Rattle.asn1_json.specs.Outcomes.{AreMembers, DenoteFirst, MakesRow, document_of}
-use Rattle.asn1_json.specs.Tokens.{seen}
+use Rattle.asn1_json.specs.Outcomes.{AreJsonMembers, DenoteFirst, MakesRow, document_of}
+use Rattle.asn1_json.specs.Tokens.{given_types}
 use Rattle.asn1_json.specs.Types.{fields_of, kind_at}
 use Rattle.asn1_json.proofs.reading.values.+making.Given as goal
 
@@ -41,17 +41,17 @@ decreases-read_kind a = 8 * a.depth + 4
 
 -- the fields so far are made
 abbrev pub invariant-read_fields-loop-place : goal.invariant-read_fields-loop-place
-invariant-read_fields-loop-place l = (unknown : Option ℕ) → MakesRow (DenoteFirst (seen l.by.types) l.by.depth
-    (Denotes (seen l.by.types) l.by.depth l.depth) l.row unknown (members_view l.members)
+invariant-read_fields-loop-place l = (unknown : Option ℕ) → MakesRow (DenoteFirst (given_types l.by.types) l.by.depth
+    (Denotes (given_types l.by.types) l.by.depth l.depth) l.row unknown (members_view l.members)
     (fields_of (kind_at l.by.types.table.now (Some l.row))) l.place) l.fn.made l.made
 
 -- the items so far are made
 abbrev pub invariant-read_array-loop-place : goal.invariant-read_array-loop-place
-invariant-read_array-loop-place l = MakesRow (DenoteItems (Denotes (seen l.by.types) l.by.depth l.depth l.inner)
+invariant-read_array-loop-place l = MakesRow (DenoteItems (Denotes (given_types l.by.types) l.by.depth l.depth l.inner)
     (items_of (map value_view (take l.place l.items)))) l.fn.made l.made
 
 -- the members so far are made
 abbrev pub invariant-read_members-loop-place : goal.invariant-read_members-loop-place
 invariant-read_members-loop-place l =
     (map document_of l.members.items ≡ map value_view (take l.place l.items)) ×
-    AreMembers (Denotes (seen l.by.types) l.by.depth l.depth l.of) l.members.items
+    AreJsonMembers (Denotes (given_types l.by.types) l.by.depth l.depth l.of) l.members.items

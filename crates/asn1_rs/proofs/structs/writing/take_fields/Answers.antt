@@ -3,7 +3,7 @@ use Rattle.std.proofs.lemmas.Bool.{false≢true}
 use Rattle.asn1_rs.proofs.Prepending.{vector_more}
 use Rattle.asn1_rs.proofs.PutBack.{row_put_back}
 use Rattle.asn1_rs.proofs.PutFields.{vector_refuses_again}
-use Rattle.asn1_rs.specs.Fields.{prepended, standing, fields_octets, FieldsRefuse}
+use Rattle.asn1_rs.specs.Fields.{prepended, collected, fields_octets, FieldsRefuse}
 use Rattle.asn1_rs.specs.Structs.Data.{fields_of_struct}
 use Rattle.asn1_rs.proofs.structs.writing.take_fields.Goals as goal
 
@@ -11,7 +11,7 @@ pub returns-in-Ok-clause-octets : goal.returns-in-Ok-clause-octets
 returns-in-Ok-clause-octets g c = λ t.
     let b = row_put_back g.T.LawfulStruct.laws.as_row g.T.LawfulStruct.laws.row.list c.args.value.now [] _ _ (Ok tt)
     (c.before-fields.ensures ∙ ap prepended c.new.ensures) t c.in-Ok.ensures in
-    ap standing b.stands ∙ b.put ∙ append-nil _
+    ap collected b.stands ∙ b.put ∙ append-nil _
 
 pub returns-in-Ok-clause-accepted : goal.returns-in-Ok-clause-accepted
 returns-in-Ok-clause-accepted g c = λ e t o.

@@ -1,7 +1,7 @@
 use Rattle.std.proofs.Common.{ℕ, Some}
-use Rattle.asn1_schema.specs.Build.{IsLike, IsRow, universal, last_places}
+use Rattle.asn1_schema.specs.Build.{IsLike, IsSequenceRow, universal, last_places}
 use Rattle.asn1_schema.proofs.Builds.{put_open}
-use Rattle.asn1_schema.specs.BuildNames.{HasParts}
+use Rattle.asn1_schema.specs.BuildNames.{HasPartNames}
 use Rattle.asn1_schema.proofs.BuiltNames.{put_open_names}
 use Rattle.asn1_schema.proofs.build.Schema.open_sequence.Goals as goal
 
@@ -9,11 +9,11 @@ pub returns-clause-puts : goal.returns-clause-puts
 returns-clause-puts c =
     put_open c.row.result c.args.self.now.nodes.items c.unknown.new.self.nodes.items c.row.new.self.nodes.items
     c.in_ok-unknown.unknown c.in_ok-tags.tags (last_places c.args.parts.now)
-    (λ (unknown : ℕ). IsLike (universal 16) (IsRow c.args.parts.now (Some unknown))) c.in_ok-tags.ensures
+    (λ (unknown : ℕ). IsLike (universal 16) (IsSequenceRow c.args.parts.now (Some unknown))) c.in_ok-tags.ensures
     c.in_ok-unknown.ensures.puts c.row.ensures.puts
 
 pub returns-clause-names : goal.returns-clause-names
 returns-clause-names c =
     put_open_names c.row.result c.args.self.now c.unknown.new.self c.row.new.self
-    (HasParts c.args.name.now c.args.parts.now) c.in_ok-unknown.ensures.names
+    (HasPartNames c.args.name.now c.args.parts.now) c.in_ok-unknown.ensures.names
     c.row.ensures.names

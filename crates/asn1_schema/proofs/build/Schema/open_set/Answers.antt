@@ -1,7 +1,7 @@
 use Rattle.std.proofs.Common.{ℕ, Some, map}
 use Rattle.asn1_schema.specs.Build.{IsLike, IsSetRow, universal}
 use Rattle.asn1_schema.proofs.Builds.{put_open}
-use Rattle.asn1_schema.specs.BuildNames.{HasParts}
+use Rattle.asn1_schema.specs.BuildNames.{HasPartNames}
 use Rattle.asn1_schema.proofs.BuiltNames.{put_open_names}
 use Rattle.asn1_schema.proofs.build.Schema.open_set.Goals as goal
 
@@ -15,5 +15,5 @@ returns-clause-puts c =
 pub returns-clause-names : goal.returns-clause-names
 returns-clause-names c =
     put_open_names c.set_row.result c.args.self.now c.unknown.new.self c.set_row.new.self
-    (HasParts c.args.name.now c.args.parts.now) c.in_ok-unknown.ensures.names
+    (HasPartNames c.args.name.now c.args.parts.now) c.in_ok-unknown.ensures.names
     c.set_row.ensures.names

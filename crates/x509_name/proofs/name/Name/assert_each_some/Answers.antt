@@ -3,7 +3,7 @@ use Rattle.std.proofs.lemmas.List.{take_all}
 use Rattle.std.proofs.lemmas.Result.{err_from_is_err_and}
 use Rattle.std.specs.List.{All}
 use Rattle.x509_name.specs.Name.{relative_names}
-use Rattle.x509_name.specs.RelativeName.{IsSome, attributes}
+use Rattle.x509_name.specs.RelativeName.{IsNonEmpty, attributes}
 use Rattle.x509_name.specs.declared.relative_name.RelativeDistinguishedName.{RelativeDistinguishedName}
 use Rattle.x509_name.proofs.name.Name.assert_each_some.Goals as goal
 
@@ -21,7 +21,7 @@ returns-in_err-assert_some c =
     )
 
 pub returns : goal.returns
-returns c = subst (All (λ r. IsSome (attributes r)))
+returns c = subst (All (λ r. IsNonEmpty (attributes r)))
     (take_all c.loop-relative_name.relative_name-index (relative_names c.args.self.now)
     (omega (arith, c.loop-relative_name-test.false, ap length c.deref-relative_name-items.ensures.value)))
     c.loop-relative_name.invariant

@@ -1,5 +1,5 @@
 use Rattle.asn1_rs.specs.Tagged.{ThenByDer}
-use Rattle.asn1_rs.specs.Tagged.Parser.{TakesWhole, HasNumber}
+use Rattle.asn1_rs.specs.Tagged.Parser.{TakesWholeContent, TagCheckGives}
 use Rattle.asn1_rs.proofs.TaggedReaders.{expects}
 use Rattle.asn1_rs.proofs.asn1_types.tagged.builder.parse_der_tagged_explicit.Goals as goal
 
@@ -7,7 +7,7 @@ pub returns-in-Ok : goal.returns-in-Ok
 returns-in-Ok g c = (
   c.into-tag.result,
   c.into-tag.ensures,
-  expects (ThenByDer g.E.From.from_gives (TakesWhole g.T.FromDer.der_gives g.E.From.from_gives))
-      (HasNumber c.into-tag.result) g.E.From.from_gives c.args.bytes.now c.in-Ok.rest.now c.in-Ok.parser _
+  expects (ThenByDer g.E.From.from_gives (TakesWholeContent g.T.FromDer.der_gives g.E.From.from_gives))
+      (TagCheckGives c.into-tag.result) g.E.From.from_gives c.args.bytes.now c.in-Ok.rest.now c.in-Ok.parser _
       c.in-Ok.ensures c.with_number.ensures,
 )

@@ -1,5 +1,5 @@
 use Rattle.std.proofs.Common.{Ok, List, ℕ, arith, rules, subst}
-use Rattle.asn1_headers.specs.Answers.{Front}
+use Rattle.asn1_headers.specs.Answers.{HasPrefix}
 use Rattle.asn1_rs_profiles.proofs.Kept.{no_refusal, same_rest}
 use Rattle.asn1_rs_profiles.proofs.signed.reading.SignedFromDerError.from_der.Goals as goal
 
@@ -9,7 +9,7 @@ returns-in-Ok-element_with_octets g c =
     let bytes = c.args.bytes.now in
     let left = c.in-Ok.field-0-0.now in
     let value = c.in-Ok.value in
-    let f : Front G.Der bytes (G.value value) left = (g.met.T.LawfulDer c.lifetimes (search rules)).der_exact bytes
+    let f : HasPrefix G.Der bytes (G.value value) left = (g.met.T.LawfulDer c.lifetimes (search rules)).der_exact bytes
     (Ok (left, value)) (λ k. omega (arith, c.type_inv.bytes k)) c.in-Ok.ensures in
     let begins = c.in-Ok-element_with_octets.ensures.0 in
     let same = same_rest G g.met.T.LawfulItem.lawful_item bytes (G.value value) left f
@@ -22,7 +22,7 @@ returns-in-Err-element_with_octets g c =
     let bytes = c.args.bytes.now in
     let left = c.in-Ok.field-0-0.now in
     let value = c.in-Ok.value in
-    let f : Front G.Der bytes (G.value value) left = (g.met.T.LawfulDer c.lifetimes (search rules)).der_exact bytes
+    let f : HasPrefix G.Der bytes (G.value value) left = (g.met.T.LawfulDer c.lifetimes (search rules)).der_exact bytes
     (Ok (left, value)) (λ k. omega (arith, c.type_inv.bytes k)) c.in-Ok.ensures in
     absurd (no_refusal G g.met.T.LawfulItem.lawful_item bytes (G.value value) left f
     c.in-Err-element_with_octets.refusal c.in-Err-element_with_octets.ensures)

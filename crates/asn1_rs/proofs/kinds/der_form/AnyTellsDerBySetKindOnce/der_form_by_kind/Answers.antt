@@ -1,0 +1,7 @@
+use Rattle.asn1_rs.proofs.DerForm.{members_told}
+use Rattle.asn1_rs.proofs.kinds.der_form.AnyTellsDerBySetKindOnce.der_form_by_kind.Goals as goal
+
+pub returns : goal.returns
+returns g c = members_told g.T.Grammar.grammar.value g.T.Grammar.grammar.IsDer c.decide_each.result
+    (g.L.Listed.items c.args.self.now) c.decide_each.ensures g.L.HasMembers.test g.met.L.LawfulMembers.apart
+    c.members_pass.ensures
