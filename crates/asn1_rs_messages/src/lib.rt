@@ -1,7 +1,9 @@
 //! Messages of protocols as structs of fields, with the theorems of their readers and writers. Each is read exactly
 //! where its grammar says, and written as its one strict encoding.
 //!
-//! An author writes the struct, its row of fields, and how one is made of the other. The author writes no proof.
+//! An author writes the struct, its row of fields, and how one is made of the other. The author writes no proof. The
+//! contracts of `put_row`, `assert_row_valid`, `read_fields` and `read_fields_by_ber` stand at their traits, in `structs`
+//! of `asn1_rs`.
 #![tactic(auto)]
 
 mod alarm;
