@@ -1,8 +1,8 @@
-//! Fields that look at no tag number: values with the header of their tag. Elements of any type, which are such fields
-//! too, stand in [`field`](crate::structs::field).
+//! Fields of type `TaggedParser`, which takes any tag number and keeps the header that was read. Elements of any type,
+//! which take any tag number too, stand in [`field`](crate::structs::field).
 //!
-//! One stands where no field before it may be left out. One that may be left out itself is the last field: it is so
-//! where no octets are left.
+//! One stands where no field before it may be left out. An `Option` of one is the last field, and is `None` where no
+//! octets are left.
 ghost use Rattle.asn1_headers.specs.Answers.{seen};
 ghost use Rattle.asn1_headers.specs.Header.{identifier_of};
 ghost use Rattle.asn1_rs.specs.Laws.Structs.Fields.{any_field_lawful, any_option_lawful};
@@ -51,6 +51,8 @@ pub(crate) fn or_none_by_ber<'a, T: FromBer<'a, Error>>(
     held(T::from_ber(alloc, octets))
 }
 
+// explicit, by DER
+
 impl<'a, T: LawfulDer<'a, Error> + Drop> ReadsField<'a, DerParser>
     for TaggedParser<'a, Explicit, T, Error> {
     ghost field_grammar = { item_field any_number ⟦<TaggedParser<'a, Explicit, T, Error> as Grammar>⟧.grammar };
@@ -88,6 +90,8 @@ impl<'a, T: LawfulDer<'a, Error> + Drop + 'a> ReadsField<'a, DerParser>
         or_none_by_der(alloc, octets)
     }
 }
+
+// explicit, by BER
 
 impl<'a, T: LawfulBer<'a, Error>> ReadsField<'a, BerParser>
     for TaggedParser<'a, Explicit, T, Error> {
@@ -127,6 +131,8 @@ impl<'a, T: LawfulBer<'a, Error> + 'a> ReadsField<'a, BerParser>
     }
 }
 
+// implicit, by DER
+
 impl<'a, T: LawfulBody<'a, Error> + LawfulCheck + TakesEachClass> ReadsField<'a, DerParser>
     for TaggedParser<'a, Implicit, T, Error> {
     ghost field_grammar = { item_field any_number ⟦<TaggedParser<'a, Implicit, T, Error> as Grammar>⟧.grammar };
@@ -165,6 +171,8 @@ impl<'a, T: LawfulBody<'a, Error> + LawfulCheck + TakesEachClass + 'a> ReadsFiel
     }
 }
 
+// implicit, by BER
+
 impl<'a, T: LawfulBody<'a, Error> + LawfulItem + TakesEachClass> ReadsField<'a, BerParser>
     for TaggedParser<'a, Implicit, T, Error> {
     ghost field_grammar = { item_field any_number ⟦<TaggedParser<'a, Implicit, T, Error> as Grammar>⟧.grammar };
@@ -202,6 +210,8 @@ impl<'a, T: LawfulBody<'a, Error> + LawfulItem + TakesEachClass + 'a> ReadsField
         or_none_by_ber(alloc, octets)
     }
 }
+
+// written by DER
 
 impl<'a, Kind, T> WritesField for TaggedParser<'a, Kind, T, Error>
 where
