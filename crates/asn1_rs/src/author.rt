@@ -143,6 +143,8 @@ pub use crate::structs::row::row_by_ber;
 pub use crate::structs::row::row_by_der;
 pub use crate::structs::row::struct_by_ber;
 pub use crate::structs::row::struct_by_der;
+pub use crate::structs::tags::ToldByTag;
+pub use crate::structs::tags::ToldByTagBy;
 
 // choices and their arms
 pub use crate::choices::arms::{
