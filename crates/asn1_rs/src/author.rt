@@ -9,8 +9,9 @@
 //! - for a leaf type [`LeafType`], [`ConvertsLeaf`], [`DerElement`] or [`TellsDerElement`], [`WritesElement`], and
 //!   [`LeafField`] for fields;
 //! - for what holds another type whole [`Holds`];
-//! - for a field, or an item of a set without repetitions, [`LawfulType`], [`ToldByNumber`], [`KeyType`],
-//!   [`AlwaysDerBy`], [`TellsDerBy`], and [`DefaultOf`] for a mark of a default.
+//! - for a field, or an item of a set without repetitions, [`LawfulType`], [`KeyType`], [`AlwaysDerBy`],
+//!   [`TellsDerBy`], of a choice [`ToldByNumber`], of a kind of its own [`ToldByTagBy`], and [`DefaultOf`] for a mark of
+//!   a default.
 //!
 //! The others follow from these, and bounds name them.
 

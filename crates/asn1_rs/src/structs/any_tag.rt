@@ -1,4 +1,4 @@
-//! Fields that look at no tag number: values with the header of their tag. Elements of any type, which are such fields
+//! Fields that look at no tag: values with the header of their tag. Elements of any type, which are such fields
 //! too, stand in [`field`](crate::structs::field).
 //!
 //! One stands where no field before it may be left out. One that may be left out itself is the last field: it is so

@@ -37,12 +37,12 @@ use std::alloc::Global;
 /// The types of the library that have it are listed in [`types`](crate::structs::types), with those of callers. The
 /// author of a choice writes it, with `choice_type`.
 pub trait LawfulType {
-    /// Its tag numbers, its grammar and how it is written, with their laws.
+    /// Its tags, its grammar and how it is written, with their laws.
     ghost type_laws: { LawfulTypeOf Self };
 }
 
-/// A type whose items may stand in a list, in a set or under an explicit tag that is a field of a struct. It has tag
-/// numbers ([`LawfulType`]), or looks at none.
+/// A type whose items may stand in a list, in a set or under an explicit tag that is a field of a struct. It has tags
+/// ([`LawfulType`]), or looks at none.
 pub trait ItemType {
     /// Its grammar and how it is written, with their laws.
     ghost item_laws: { ItemTypeOf Self };

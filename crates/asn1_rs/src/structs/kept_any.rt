@@ -23,7 +23,7 @@ use asn1_headers::content::{BerParser, DerParser};
 use asn1_headers::error::{Error, ParseResult, SerializeResult};
 use std::alloc::Global;
 
-/// A value that is told by no number, by DER, in the words of its field.
+/// A value that is told by no tag, by DER, in the words of its field.
 #[inline(always)]
 fn untold_by_der<'a, T: LawfulDer<'a, Error>>(
     alloc: Global,
