@@ -28,7 +28,7 @@ use Rattle.x690.specs.Nested.{IsElement, ElementFault}
 use Rattle.asn1_rs.specs.Optional.{IsAtEnd, OptionGives, in_some}
 use Rattle.asn1_rs.specs.Traits.{BerGives, DerGives, PassesAll}
 use Rattle.asn1_rs.specs.Structs.{EncodingRules, by_der, by_ber, any_tag, left_out_at_end, words_by, IsTruncatedBy, FieldGrammar, RowGrammar}
-use Rattle.asn1_rs.specs.Structs.{among, OptionTakes, ReadsField}
+use Rattle.asn1_rs.specs.Structs.{among, one_class, OptionTakes, ReadsField}
 use Rattle.asn1_rs.specs.Structs.{FieldTags, item_field, optional_field, empty_row, row_of, EndGives, RowGives, StructBody, StructGives}
 use Rattle.asn1_rs.specs.Structs.Data.{AnswersField, AnswersRow, AnswersAlso, LawfulStructOf, grammar_of_struct}
 use Rattle.asn1_rs.specs.Structs.Data.{field_of, struct_type}
@@ -238,7 +238,7 @@ module _ {T : Type 0} (X : LawfulStructOf T) (gives : List ℕ → Result T Erro
       AnswersField by_der (field_of (struct_type X)).grammar octets answer
   struct_answers_by_der = item_answers by_der (grammar_of_struct X) ((struct_type X).lawful refl)
       (DerGives PassesAll (StructGives (AnswersAlso by_der X gives)) (λ (x y : Error). y ≡ x))
-      (struct_by_der_exact X gives) (struct_by_der_never_oom X gives) (among (16 ∷ []))
+      (struct_by_der_exact X gives) (struct_by_der_never_oom X gives) (among ((one_class 0, 16) ∷ []))
 
   -- So does its reader by BER.
   pub struct_answers_by_ber : (octets : List ℕ) (answer : Result (List ℕ × T) (Refusal Error)) →
@@ -253,4 +253,4 @@ module _ {T : Type 0} (X : LawfulStructOf T) (gives : List ℕ → Result T Erro
       answer)
       (λ none. element_no_memory (IsElement max_depth) (ElementFault max_depth) ber_violation ber_violation_no_memory
       PassesAll (StructGives (AnswersAlso by_ber X gives)) (λ (x y : Error). y ≡ x) all_pass
-      (struct_never_oom by_ber X gives none)) (among (16 ∷ []))
+      (struct_never_oom by_ber X gives none)) (among ((one_class 0, 16) ∷ []))

@@ -118,7 +118,7 @@ meets_there : (class number : ℕ) (tag : TagClass × ℕ) (us : List (TagClass 
     meets_one_of tag.0 tag.1 us ≡ true
 meets_there class number tag [] own h = absurd (cc)
 meets_there class number tag (u ∷ us) own h =
-    tells (is_in_class class u.0 && nat_eq u.1 number) refl h
+    tells (is_in_class class u.0 && nat_eq u.1 number) refl (meets_there class number tag us own) h
   where
     here : (is_in_class class u.0 && nat_eq u.1 number) ≡ true → (classes_meet tag.0 u.0 && nat_eq u.1 tag.1) ≡ true
     here t = both_hold (classes_meet tag.0 u.0) (nat_eq u.1 tag.1)
@@ -127,11 +127,13 @@ meets_there class number tag (u ∷ us) own h =
         (same_number tag.1 u.1 number (second_holds (is_in_class class tag.0) (nat_eq tag.1 number) own)
         (second_holds (is_in_class class u.0) (nat_eq u.1 number) t))
 
-    tells : (b : Bool) → (is_in_class class u.0 && nat_eq u.1 number) ≡ b → (b || is_a_tag class number us) ≡ true →
+    tells : (b : Bool) → (is_in_class class u.0 && nat_eq u.1 number) ≡ b →
+        (is_a_tag class number us ≡ true → meets_one_of tag.0 tag.1 us ≡ true) →
+        (b || is_a_tag class number us) ≡ true →
         ((classes_meet tag.0 u.0 && nat_eq u.1 tag.1) || meets_one_of tag.0 tag.1 us) ≡ true
-    tells true e t = rw (here e) refl
-    tells false e t = or_later (classes_meet tag.0 u.0 && nat_eq u.1 tag.1) (meets_one_of tag.0 tag.1 us)
-        (meets_there class number tag us own t)
+    tells true e others t = rw (here e) refl
+    tells false e others t = or_later (classes_meet tag.0 u.0 && nat_eq u.1 tag.1) (meets_one_of tag.0 tag.1 us)
+        (others t)
 
 -- no tag of the second of two lists that have none in common is one of the first
 none_of_first : (class number : ℕ) (ts us : List (TagClass × ℕ)) → have_none_in_common ts us ≡ true →
