@@ -152,8 +152,7 @@ pub(crate) fn type_by_ber<'a, T: LawfulBer<'a, Error> + ToldByTag>(
     T::from_ber(alloc, octets)
 }
 
-impl<'a, K: FieldsByLaws, T: LawfulDer<'a, Error> + ToldByTag> ReadsTypeBy<'a, K, DerParser>
-    for T {
+impl<'a, K: FieldsByLaws, T: LawfulDer<'a, Error> + ToldByTag> ReadsTypeBy<'a, K, DerParser> for T {
     ghost numbered_by_kind = { record { tags = T.tags; grammar = T.grammar } };
 
     ghost type_gives_by_kind = { T.der_gives };
@@ -171,8 +170,7 @@ impl<'a, K: FieldsByLaws, T: LawfulDer<'a, Error> + ToldByTag> ReadsTypeBy<'a, K
     }
 }
 
-impl<'a, K: FieldsByLaws, T: LawfulBer<'a, Error> + ToldByTag> ReadsTypeBy<'a, K, BerParser>
-    for T {
+impl<'a, K: FieldsByLaws, T: LawfulBer<'a, Error> + ToldByTag> ReadsTypeBy<'a, K, BerParser> for T {
     ghost numbered_by_kind = { record { tags = T.tags; grammar = T.grammar } };
 
     ghost type_gives_by_kind = { T.ber_gives };
