@@ -10,8 +10,8 @@
 //!   [`LeafField`] for fields;
 //! - for what holds another type whole [`Holds`];
 //! - for a field, or an item of a set without repetitions, [`LawfulType`], [`KeyType`], [`AlwaysDerBy`],
-//!   [`TellsDerBy`], of a choice [`ToldByNumber`], of a kind of its own [`ToldByTagBy`], and [`DefaultOf`] for a mark of
-//!   a default.
+//!   [`TellsDerBy`], of a choice [`ToldByNumber`], of a kind of its own [`ToldByTagBy`], and [`DefaultOf`] for a mark
+//!   of a default.
 //!
 //! The others follow from these, and bounds name them.
 

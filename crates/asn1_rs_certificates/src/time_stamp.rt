@@ -1,5 +1,5 @@
-//! What a time stamp says (RFC 3161, 2.4.2). It is read by DER, and borrowed from the octets. The fields from the accuracy
-//! on stand in `stamp_details`.
+//! What a time stamp says (RFC 3161, 2.4.2). It is read by DER, and borrowed from the octets. The fields from the
+//! accuracy on stand in `stamp_details`.
 ghost use Rattle.asn1_rs.specs.Prelude.{MadeOf, ReadsByDer, refl, seen, struct_of, WritesStrict};
 ghost use Rattle.asn1_rs_certificates.specs.TimeStamps.{details_of};
 
@@ -62,8 +62,8 @@ impl<'a> ReadsFields<'a> for MessageImprint<'a> {
     }
 }
 
-/// What a time stamp says. BOOLEAN has the tag number of `[1]`, and INTEGER and the tags have other classes, so each
-/// field that may be left out is told.
+/// What a time stamp says. BOOLEAN has the tag number of `[1]` in another class, so each field that may be left out is
+/// told.
 ///
 ///     TSTInfo ::= SEQUENCE {
 ///         version         INTEGER { v1(1) },
@@ -169,8 +169,8 @@ pub fn read_tst_info<'a>(alloc: Global, octets: &'a [u8]) -> ParseResult<'a, Tst
     read_der::<TstInfo<'a>, Error>(alloc, octets)
 }
 
-/// The one strict encoding of what a time stamp says, in DER form. Where its length fits `usize`, it is refused only when
-/// out of memory.
+/// The one strict encoding of what a time stamp says, in DER form. Where its length fits `usize`, it is refused only
+/// when out of memory.
 pub fn tst_info_vec(alloc: Global, info: &TstInfo<'_>) -> SerializeResult<Vec<u8>>
     ensures { ⟦<TstInfo<'static> as Grammar>⟧.grammar.IsDer
         (⟦<TstInfo<'static> as Grammar>⟧.grammar.value info.now) →

@@ -23,9 +23,9 @@ use Rattle.asn1_rs.specs.Laws.Structs.Rows.{IsLawfulRow, empty_lawful, row_lawfu
 use Rattle.asn1_rs.specs.Laws.Structs.Structs.{struct_class, struct_lawful, struct_number, struct_takes_class}
 use Rattle.asn1_rs.specs.Laws.Structs.Writing.{IsLawfulPuts, empty_puts, row_puts, struct_lawful_writing}
 
--- A type of items, the tags of its elements, and which classes of implicit tags may stand over it. A single type has one
--- class and one tag number; of another, as a choice is, these two tell nothing. The laws hold where it is sound. A value
--- under an implicit tag is sound where its type is single and takes the class of the tag.
+-- A type of items, the tags of its elements, and which classes of implicit tags may stand over it. A single type has
+-- one class and one tag number; of another, as a choice is, these two tell nothing. The laws hold where it is sound. A
+-- value under an implicit tag is sound where its type is single and takes the class of the tag.
 pub record LawfulTypeOf (S : Type 0) : Type 1 where
   pub class : ℕ
   pub number : ℕ

@@ -129,8 +129,8 @@ module _ {S W : Type 0} (inner : W → S) (D : LawfulDefaultOf S) (G : ItemGramm
         let own = subst (λ (z : List (TagClass × ℕ)). DefaultGives inner D.of.grammar.value D.default
         (left_out_among z rules) reads octets answer) (sym t.tags_are) g in record {
           exact = λ k. default_reads inner D.of.tags D.of.grammar D.default rules reads own_reads octets answer k own;
-          no_memory = λ none. default_no_memory inner D.of.grammar.value D.default (left_out_among D.of.tags rules) reads
-              (never_oom (t.allocates ∙ none)) octets answer own;
+          no_memory = λ none. default_no_memory inner D.of.grammar.value D.default (left_out_among D.of.tags rules)
+              reads (never_oom (t.allocates ∙ none)) octets answer own;
         }
 
 -- Defaults of the types of the library.

@@ -48,8 +48,8 @@ use asn1_headers::tag::Tag;
 
 /// A type whose elements have one of its tags. So a field of it is told by them.
 ///
-/// What has a kind has it by that ([`ToldByTagBy`]). A type with one class and one tag number has that tag. A choice has
-/// the tag numbers of its arms, in whichever class.
+/// What has a kind has it by that ([`ToldByTagBy`]). A type with one class and one tag number has that tag. A choice
+/// has the tag numbers of its arms, in whichever class.
 pub trait ToldByTag: Grammar {
     /// Its tags.
     ghost tags: { List (TagClass × ℕ) };

@@ -34,8 +34,8 @@ use Rattle.asn1_rs.specs.Structs.{any_tag, among, is_a_tag, BeginsWithOneOf, Beg
 use Rattle.asn1_rs.specs.Structs.{TagClass, left_out_among, one_class}
 
 -- Octets give one value and leave one rest. A value has one strict octets, and these are octets. They begin with one of
--- the tags, or are none where the field may be left out. They are taken again, with their value, before each rest. Those
--- of an optional field are so before each rest that does not begin with one of its tags.
+-- the tags, or are none where the field may be left out. They are taken again, with their value, before each rest.
+-- Those of an optional field are so before each rest that does not begin with one of its tags.
 pub record IsLawfulField {S : Type 0} (F : FieldGrammar S) : Type 0 where
   pub one_equality : IsSet F.Value
   pub values : (rules : EncodingRules) (o : List ℕ) (v : F.Value) (r : List ℕ) → F.Takes rules o v r → F.IsValue v

@@ -12,5 +12,5 @@ returns-clause-exact g c = let laws = g.met.T.LawfulBer c.lifetimes (search rule
     g.met.T.LawfulItem.lawful_item by_ber g.T.FromBer.ber_gives laws.ber_exact laws.ber_no_memory c.args.octets.now
     (seen c.or_default.result)
     (or_default_gives (λ x. x.value) own.of.grammar.value own.default (left_out_among g.T.ToldByTag.tags by_ber)
-    g.T.FromBer.ber_gives c.args.octets.now (seen c.optional_by_ber.result) (seen c.or_default.result) c.optional_by_ber.ensures
-    c.or_default.ensures)
+    g.T.FromBer.ber_gives c.args.octets.now (seen c.optional_by_ber.result) (seen c.or_default.result)
+    c.optional_by_ber.ensures c.or_default.ensures)

@@ -12,5 +12,5 @@ returns-clause-exact g c = let laws = g.met.T.LawfulDer c.lifetimes (search rule
     g.met.T.LawfulItem.lawful_item by_der g.T.FromDer.der_gives laws.der_exact laws.der_no_memory c.args.octets.now
     (seen c.or_default.result)
     (or_default_gives (λ x. x.value) own.of.grammar.value own.default (left_out_among g.T.ToldByTag.tags by_der)
-    g.T.FromDer.der_gives c.args.octets.now (seen c.optional_by_der.result) (seen c.or_default.result) c.optional_by_der.ensures
-    c.or_default.ensures)
+    g.T.FromDer.der_gives c.args.octets.now (seen c.optional_by_der.result) (seen c.or_default.result)
+    c.optional_by_der.ensures c.or_default.ensures)
