@@ -78,6 +78,7 @@ pub trait ToldByTagBy<K>: Grammar {
 impl<T: HasKind + ToldByTagBy<T::Kind>> ToldByTag for T {
     ghost tags = { T.tags_by_kind };
 
+    #[inline(always)]
     fn has_tag(class: Class, tag: Tag) -> bool {
         T::has_tag_by_kind(class, tag)
     }
@@ -97,6 +98,7 @@ fn is_tag(own: u8, number: u32, class: Class, tag: Tag) -> bool
 impl<T: WritesElement> ToldByTagBy<ElementKind> for T {
     ghost tags_by_kind = { (one_class 0, (T.TAG).0) ∷ [] };
 
+    #[inline(always)]
     fn has_tag_by_kind(class: Class, tag: Tag) -> bool {
         is_tag(0, T::TAG.0, class, tag)
     }
@@ -109,6 +111,7 @@ impl<T: WritesElement> ToldByTagBy<ElementKind> for T {
 impl ToldByTagBy<ElementKind> for Boolean {
     ghost tags_by_kind = { (one_class 0, boolean_number) ∷ [] };
 
+    #[inline(always)]
     fn has_tag_by_kind(class: Class, tag: Tag) -> bool {
         is_tag(0, Boolean::TAG.0, class, tag)
     }
@@ -123,6 +126,7 @@ impl ToldByTagBy<ElementKind> for Boolean {
 impl ToldByTagBy<ElementKind> for Oid<'_> {
     ghost tags_by_kind = { (one_class 0, oid_number) ∷ [] };
 
+    #[inline(always)]
     fn has_tag_by_kind(class: Class, tag: Tag) -> bool
         ensures { result ≡ is_a_tag (class_number class) tag.0 ((one_class 0, oid_number) ∷ []) }
     {
@@ -140,6 +144,7 @@ where
 {
     ghost tags_by_kind = { (one_class 0, (L.TAG).0) ∷ [] };
 
+    #[inline(always)]
     fn has_tag_by_kind(class: Class, tag: Tag) -> bool {
         is_tag(0, L::TAG.0, class, tag)
     }
@@ -155,6 +160,7 @@ where
 {
     ghost tags_by_kind = { (one_class 0, (L.TAG).0) ∷ [] };
 
+    #[inline(always)]
     fn has_tag_by_kind(class: Class, tag: Tag) -> bool {
         is_tag(0, L::TAG.0, class, tag)
     }
@@ -166,6 +172,7 @@ where
 impl<T: Grammar> ToldByTagBy<SetKind<Repeats>> for SetOf<T> {
     ghost tags_by_kind = { (one_class 0, 17) ∷ [] };
 
+    #[inline(always)]
     fn has_tag_by_kind(class: Class, tag: Tag) -> bool {
         is_tag(0, 17, class, tag)
     }
@@ -177,6 +184,7 @@ impl<T: Grammar> ToldByTagBy<SetKind<Repeats>> for SetOf<T> {
 impl<T: LawfulStruct> ToldByTagBy<FieldsKind> for T {
     ghost tags_by_kind = { (one_class 0, 16) ∷ [] };
 
+    #[inline(always)]
     fn has_tag_by_kind(class: Class, tag: Tag) -> bool {
         is_tag(0, 16, class, tag)
     }
@@ -189,6 +197,7 @@ impl<T: Grammar, E, const CLASS: u8, const TAG: u32> ToldByTagBy<TagMark<Explici
     for TaggedValue<T, E, Explicit, CLASS, TAG> {
     ghost tags_by_kind = { (one_class CLASS, as_u32 TAG) ∷ [] };
 
+    #[inline(always)]
     fn has_tag_by_kind(class: Class, tag: Tag) -> bool {
         is_tag(CLASS, TAG, class, tag)
     }
@@ -202,6 +211,7 @@ impl<T: Grammar + Tagged, E, const CLASS: u8, const TAG: u32> ToldByTagBy<TagMar
     for TaggedValue<T, E, Implicit, CLASS, TAG> {
     ghost tags_by_kind = { (one_class CLASS, as_u32 TAG) ∷ [] };
 
+    #[inline(always)]
     fn has_tag_by_kind(class: Class, tag: Tag) -> bool {
         is_tag(CLASS, TAG, class, tag)
     }
@@ -214,6 +224,7 @@ impl<T: Grammar + Tagged, E, const CLASS: u8, const TAG: u32> ToldByTagBy<TagMar
 impl<H: Holds<Held = T>, T: ToldByTag> ToldByTagBy<HolderKind> for H {
     ghost tags_by_kind = { T.tags };
 
+    #[inline(always)]
     fn has_tag_by_kind(class: Class, tag: Tag) -> bool {
         T::has_tag(class, tag)
     }
@@ -224,6 +235,7 @@ impl<H: Holds<Held = T>, T: ToldByTag> ToldByTagBy<HolderKind> for H {
 impl<T: ToldByNumber> ToldByTagBy<ChoiceKind> for T {
     ghost tags_by_kind = { in_any_class T.numbers };
 
+    #[inline(always)]
     #[tactic(auto, using(crate::specs::Laws::Structs::Numbers::number_in_any_class))]
     fn has_tag_by_kind(_class: Class, tag: Tag) -> bool {
         T::has_number(tag)
