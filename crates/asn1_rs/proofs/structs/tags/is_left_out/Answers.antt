@@ -1,6 +1,5 @@
 use Rattle.std.proofs.Common.{ap, subst}
 use Rattle.asn1_headers.specs.Class.{class_number}
-use Rattle.asn1_headers.specs.declared.class.Class.{Class}
 use Rattle.asn1_headers.specs.declared.tag.Tag.{Tag}
 use Rattle.asn1_headers.specs.Answers.{seen}
 use Rattle.asn1_headers.specs.Header.Reading.{HeaderGives, refusal_of}
