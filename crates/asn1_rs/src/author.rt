@@ -10,8 +10,9 @@
 //! - for a leaf type [`LeafType`], [`ConvertsLeaf`], [`DerElement`] or [`TellsDerElement`], [`WritesElement`], and
 //!   [`LeafField`] for fields;
 //! - for what holds another type whole [`Holds`];
-//! - for a field, or an item of a set without repetitions, [`LawfulType`], [`ToldByNumber`], [`KeyType`],
-//!   [`AlwaysDerBy`], [`TellsDerBy`], and [`DefaultOf`] for a mark of a default.
+//! - for a field, or an item of a set without repetitions, [`LawfulType`], [`KeyType`], [`AlwaysDerBy`],
+//!   [`TellsDerBy`], of a choice [`ToldByNumber`], of a kind of its own [`ToldByTagBy`], and [`DefaultOf`] for a mark
+//!   of a default.
 //!
 //! The others follow from these, and bounds or macros name them.
 
@@ -49,6 +50,7 @@ pub use crate::structs::reading::{FieldsByLaws, LeafField, ReadsType, ReadsTypeB
 pub use crate::structs::row::{
     BorrowedRow, DerRow, ReadsRow, Row, row_by_ber, row_by_der, struct_by_ber, struct_by_der,
 };
+pub use crate::structs::tags::{ToldByTag, ToldByTagBy};
 pub use crate::structs::{
     LawfulStruct, OfRow, ReadsBy, ReadsFields, ReadsFieldsByBer, StructReader,
 };

@@ -8,7 +8,7 @@ ghost use Rattle.asn1_headers.specs.Header.{identifier_of};
 ghost use Rattle.asn1_rs.specs.Laws.Structs.Fields.{any_field_lawful, any_option_lawful};
 ghost use Rattle.asn1_rs.specs.Laws.Tagged.Headed.{explicit_headed_lawful, implicit_headed_lawful};
 ghost use Rattle.asn1_rs.specs.Optional.{InSome, IsAtEnd, OptionGives, option_writing};
-ghost use Rattle.asn1_rs.specs.Structs.{any_number, item_field, left_out_at_end, optional_field};
+ghost use Rattle.asn1_rs.specs.Structs.{any_tag, item_field, left_out_at_end, optional_field};
 
 use crate::asn1_types::option::held;
 use crate::asn1_types::tagged::implicit_parser::TakesEachClass;
@@ -55,7 +55,7 @@ pub(crate) fn or_none_by_ber<'a, T: FromBer<'a, Error>>(
 
 impl<'a, T: LawfulDer<'a, Error> + Drop> ReadsField<'a, DerParser>
     for TaggedParser<'a, Explicit, T, Error> {
-    ghost field_grammar = { item_field any_number ⟦<TaggedParser<'a, Explicit, T, Error> as Grammar>⟧.grammar };
+    ghost field_grammar = { item_field any_tag ⟦<TaggedParser<'a, Explicit, T, Error> as Grammar>⟧.grammar };
 
     ghost field_gives = { ⟦<TaggedParser<'a, Explicit, T, Error> as FromDer<'a, Error>>⟧.der_gives };
 
@@ -73,7 +73,7 @@ impl<'a, T: LawfulDer<'a, Error> + Drop> ReadsField<'a, DerParser>
 
 impl<'a, T: LawfulDer<'a, Error> + Drop + 'a> ReadsField<'a, DerParser>
     for Option<TaggedParser<'a, Explicit, T, Error>> {
-    ghost field_grammar = { optional_field any_number left_out_at_end
+    ghost field_grammar = { optional_field any_tag left_out_at_end
         ⟦<TaggedParser<'a, Explicit, T, Error> as Grammar>⟧.grammar };
 
     ghost field_gives = { OptionGives IsAtEnd
@@ -95,7 +95,7 @@ impl<'a, T: LawfulDer<'a, Error> + Drop + 'a> ReadsField<'a, DerParser>
 
 impl<'a, T: LawfulBer<'a, Error>> ReadsField<'a, BerParser>
     for TaggedParser<'a, Explicit, T, Error> {
-    ghost field_grammar = { item_field any_number ⟦<TaggedParser<'a, Explicit, T, Error> as Grammar>⟧.grammar };
+    ghost field_grammar = { item_field any_tag ⟦<TaggedParser<'a, Explicit, T, Error> as Grammar>⟧.grammar };
 
     ghost field_gives = { ⟦<TaggedParser<'a, Explicit, T, Error> as FromBer<'a, Error>>⟧.ber_gives };
 
@@ -113,7 +113,7 @@ impl<'a, T: LawfulBer<'a, Error>> ReadsField<'a, BerParser>
 
 impl<'a, T: LawfulBer<'a, Error> + 'a> ReadsField<'a, BerParser>
     for Option<TaggedParser<'a, Explicit, T, Error>> {
-    ghost field_grammar = { optional_field any_number left_out_at_end
+    ghost field_grammar = { optional_field any_tag left_out_at_end
         ⟦<TaggedParser<'a, Explicit, T, Error> as Grammar>⟧.grammar };
 
     ghost field_gives = { OptionGives IsAtEnd
@@ -135,7 +135,7 @@ impl<'a, T: LawfulBer<'a, Error> + 'a> ReadsField<'a, BerParser>
 
 impl<'a, T: LawfulBody<'a, Error> + LawfulCheck + TakesEachClass> ReadsField<'a, DerParser>
     for TaggedParser<'a, Implicit, T, Error> {
-    ghost field_grammar = { item_field any_number ⟦<TaggedParser<'a, Implicit, T, Error> as Grammar>⟧.grammar };
+    ghost field_grammar = { item_field any_tag ⟦<TaggedParser<'a, Implicit, T, Error> as Grammar>⟧.grammar };
 
     ghost field_gives = { ⟦<TaggedParser<'a, Implicit, T, Error> as FromDer<'a, Error>>⟧.der_gives };
 
@@ -153,7 +153,7 @@ impl<'a, T: LawfulBody<'a, Error> + LawfulCheck + TakesEachClass> ReadsField<'a,
 
 impl<'a, T: LawfulBody<'a, Error> + LawfulCheck + TakesEachClass + 'a> ReadsField<'a, DerParser>
     for Option<TaggedParser<'a, Implicit, T, Error>> {
-    ghost field_grammar = { optional_field any_number left_out_at_end
+    ghost field_grammar = { optional_field any_tag left_out_at_end
         ⟦<TaggedParser<'a, Implicit, T, Error> as Grammar>⟧.grammar };
 
     ghost field_gives = { OptionGives IsAtEnd
@@ -175,7 +175,7 @@ impl<'a, T: LawfulBody<'a, Error> + LawfulCheck + TakesEachClass + 'a> ReadsFiel
 
 impl<'a, T: LawfulBody<'a, Error> + LawfulItem + TakesEachClass> ReadsField<'a, BerParser>
     for TaggedParser<'a, Implicit, T, Error> {
-    ghost field_grammar = { item_field any_number ⟦<TaggedParser<'a, Implicit, T, Error> as Grammar>⟧.grammar };
+    ghost field_grammar = { item_field any_tag ⟦<TaggedParser<'a, Implicit, T, Error> as Grammar>⟧.grammar };
 
     ghost field_gives = { ⟦<TaggedParser<'a, Implicit, T, Error> as FromBer<'a, Error>>⟧.ber_gives };
 
@@ -193,7 +193,7 @@ impl<'a, T: LawfulBody<'a, Error> + LawfulItem + TakesEachClass> ReadsField<'a, 
 
 impl<'a, T: LawfulBody<'a, Error> + LawfulItem + TakesEachClass + 'a> ReadsField<'a, BerParser>
     for Option<TaggedParser<'a, Implicit, T, Error>> {
-    ghost field_grammar = { optional_field any_number left_out_at_end
+    ghost field_grammar = { optional_field any_tag left_out_at_end
         ⟦<TaggedParser<'a, Implicit, T, Error> as Grammar>⟧.grammar };
 
     ghost field_gives = { OptionGives IsAtEnd
