@@ -40,8 +40,8 @@ both_say {A} {B} {x} {y} p q = ap (λ z. (z, x.1)) p ∙ ap (λ z. (y.0, z)) q
 -- the copy of an algorithm, and what an algorithm says
 abbrev pub CopiesAlgorithm : AlgorithmIdentifier → AlgorithmIdentifier → Type 0
 CopiesAlgorithm x y = (oid_value y.algorithm ≡ oid_value x.algorithm) ×
-    CopiesSome (λ (s c : KeptAny). KeepsElement s.header (kept_content s) c) x.parameters y.parameters ×
-    (◌≡◌ {A = Unit {0}} tt tt)
+    (CopiesSome (λ (s c : KeptAny). KeepsElement s.header (kept_content s) c) x.parameters y.parameters ×
+    (◌≡◌ {A = Unit {0}} tt tt))
 
 abbrev pub algorithm_value : AlgorithmIdentifier → OidValue × (Option ElementValue × Unit {0})
 algorithm_value x = (oid_value x.algorithm, (option_map kept_value x.parameters, tt))
@@ -53,8 +53,8 @@ algorithm_says x y z = both_say z.0 (both_say (some_says (λ (s c : KeptAny). Ke
 -- the copy of an attribute, and what an attribute says
 abbrev pub CopiesAttribute : Attribute → Attribute → Type 0
 CopiesAttribute x y = (oid_value y.attribute_type ≡ oid_value x.attribute_type) ×
-    AllZip (λ (s c : KeptAny). KeepsElement s.header (kept_content s) c) (items_of x.values) (items_of y.values) ×
-    (◌≡◌ {A = Unit {0}} tt tt)
+    (AllZip (λ (s c : KeptAny). KeepsElement s.header (kept_content s) c) (items_of x.values) (items_of y.values) ×
+    (◌≡◌ {A = Unit {0}} tt tt))
 
 abbrev pub attribute_value : Attribute → OidValue × (Multiset ElementValue × Unit {0})
 attribute_value x = (oid_value x.attribute_type, (multiset (map kept_value (items_of x.values)), tt))
