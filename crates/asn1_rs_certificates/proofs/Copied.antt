@@ -18,7 +18,7 @@ use Rattle.asn1_rs_messages.proofs.Copied.{items_say}
 -- a copy of an attribute of a name, and what an attribute says
 abbrev CopiesAttribute : Attribute → Attribute → Type 0
 CopiesAttribute x y = (oid_value y.kind ≡ oid_value x.kind) ×
-    KeepsElement x.value.header (kept_content x.value) y.value × (◌≡◌ {A = Unit {0}} tt tt)
+    (KeepsElement x.value.header (kept_content x.value) y.value × (◌≡◌ {A = Unit {0}} tt tt))
 
 abbrev attribute_value : Attribute → OidValue × (ElementValue × Unit {0})
 attribute_value x = (oid_value x.kind, (kept_value x.value, tt))
@@ -45,7 +45,7 @@ name_says x y z = items_say CopiesSet set_value set_says x y z
 -- a copy of a key, and what a key says
 abbrev pub CopiesKey : SubjectPublicKeyInfo → SubjectPublicKeyInfo → Type 0
 CopiesKey x y = CopiesAlgorithm x.algorithm y.algorithm ×
-    (bits_of_string y.subject_public_key ≡ bits_of_string x.subject_public_key) × (◌≡◌ {A = Unit {0}} tt tt)
+    ((bits_of_string y.subject_public_key ≡ bits_of_string x.subject_public_key) × (◌≡◌ {A = Unit {0}} tt tt))
 
 abbrev pub key_value : SubjectPublicKeyInfo → (OidValue × (Option ElementValue × Unit {0})) × (Bits × Unit {0})
 key_value x = (algorithm_value x.algorithm, (bits_of_string x.subject_public_key, tt))
@@ -55,8 +55,8 @@ key_says x y z = both_say (algorithm_says x.algorithm y.algorithm z.0) (both_say
 
 -- a copy of an extension, and what an extension says
 abbrev pub CopiesExtension : Extension → Extension → Type 0
-CopiesExtension x y = (oid_value y.id ≡ oid_value x.id) × (y.critical.value ≡ x.critical.value) ×
-    (string_octets y.value ≡ string_octets x.value) × (◌≡◌ {A = Unit {0}} tt tt)
+CopiesExtension x y = (oid_value y.id ≡ oid_value x.id) × ((y.critical.value ≡ x.critical.value) ×
+    ((string_octets y.value ≡ string_octets x.value) × (◌≡◌ {A = Unit {0}} tt tt)))
 
 abbrev pub extension_value : Extension → OidValue × (Bool × (List ℕ × Unit {0}))
 extension_value x = (oid_value x.id, (x.critical.value, (string_octets x.value, tt)))
