@@ -35,6 +35,6 @@ pub use items::Items;
 pub use looks::{Held, LooksInto, LooksWithin, ReadAs, ReadsValue, Whole};
 pub use names::{Named, NamesParts, NamesSteps, PartNames};
 pub use refused::{Found, Refused, Step};
-pub use rows::LooksIntoRow;
+pub use rows::{InPart, LooksIntoRow};
 pub use structs::InStruct;
 pub use texts::{Notation, WithNames};
