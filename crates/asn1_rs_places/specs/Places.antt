@@ -135,14 +135,20 @@ IsInRow reads silent tells others place end octets told =
     IsToldUnder (Field place) reads silent tells end octets told ⊎
     ((rest : List ℕ) × (next : ℕ) × Accepts reads octets rest × (next ≡ next_place place) × others next end rest told)
 
--- The fields from this place on are read as one part of the row, which is refused. The place is the one that looking
--- into these fields tells of the same error. Where it tells none, the place is the front of the part.
+-- The fields from this place on are read as one part of the row, which is refused with this error. The place is the one
+-- that looking into these fields tells of this error. Where it tells none, the place is the front of the part.
+abbrev pub HasPlaceInPart : Error → (List ℕ → Type 0) → (ℕ → ℕ → List ℕ → Refused → Type 0) → ℕ → ℕ → List ℕ →
+    Refused → Type 0
+HasPlaceInPart e silent tells place end octets told =
+    ((inner : Refused) × tells place end octets inner × AreEqual inner.error e × HasPlaceOf inner told) ⊎
+    (TellsNotOf e silent (tells place) end octets × (told.steps.items ≡ FieldsFrom place ∷ []) ×
+    IsAtFront end octets told)
+
+-- The refusal of the part is told.
 abbrev pub IsInPart : {S : Type 0} → (List ℕ → Result S Error → Type 0) → (List ℕ → Type 0) →
     (ℕ → ℕ → List ℕ → Refused → Type 0) → ℕ → ℕ → List ℕ → Refused → Type 0
 IsInPart gives silent tells place end octets told =
-    (gives octets (Err told.error) × ((inner : Refused) × tells place end octets inner ×
-    AreEqual inner.error told.error × HasPlaceOf inner told)) ⊎
-    (TellsNotOf told.error silent (tells place) end octets × IsInRest gives place end octets told)
+    gives octets (Err told.error) × HasPlaceInPart told.error silent tells place end octets told
 
 -- Contents octets of elements.
 

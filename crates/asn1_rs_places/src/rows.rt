@@ -1,12 +1,13 @@
 //! Rows of fields: in which field the refusal came.
-ghost use Rattle.std.specs.Prelude.{◌≡◌, ℕ, Err, List, MatchOption};
+ghost use Rattle.std.specs.Prelude.{◌≡◌, ℕ, List, MatchOption};
 ghost use Rattle.asn1_rs_places.specs.declared.refused.Refused.{Refused};
-ghost use Rattle.asn1_rs_places.specs.Places.{IsBehindLast, IsInPart, IsInRest, IsInRow, TakesRow};
+ghost use Rattle.asn1_rs_places.specs.Places.{HasPlaceInPart, IsBehindLast, IsInPart, IsInRest, IsInRow};
+ghost use Rattle.asn1_rs_places.specs.Places.{TakesRow};
 
 use crate::looks::{LooksInto, Whole, told};
 use crate::refused::{Refused, Step};
-use asn1_rs::author::{ReadsBy, ReadsField, ReadsRow};
 use asn1_rs::Error;
+use asn1_rs::author::{ReadsBy, ReadsField, ReadsRow};
 use std::alloc::Global;
 use std::marker::PhantomData;
 
@@ -86,8 +87,8 @@ where
     R: ReadsRow<'a, P>,
     L: LooksIntoRow<'a, P, R>,
     ensures own { result.error ≡ error }
-    ensures place { IsInPart (λ input answer. answer ≡ Err error) (TakesRow R.row_gives) L.tells_in_row
-        place end octets.now result }
+    ensures place { HasPlaceInPart result.error (TakesRow R.row_gives) L.tells_in_row place end
+        octets.now result }
 {
     match L::look_in_row(alloc, octets, end, place) {
         Some(refused) => {
