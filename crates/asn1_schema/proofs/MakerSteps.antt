@@ -1,5 +1,6 @@
 -- Steps of a maker of values.
-use Rattle.std.proofs.Common.{◌≡◌, ◌∙◌, ap, sym, refl, subst, ℕ, ◌+◌, ◌-◌, ◌^◌, List, [], ◌∷◌, ◌++◌, append-nil, length-append, arith, Some, None, Option}
+use Rattle.std.proofs.Common.{◌≡◌, ◌∙◌, ap, sym, refl, subst, ℕ, ◌+◌, ◌-◌, ◌^◌, List, [], ◌∷◌, ◌++◌, append-nil, length-append, take, arith, Some, None, Option}
+use Rattle.std.proofs.Math.Seq.{take-append_seam}
 use Rattle.std.specs.Prelude.{min, reverse, IsSomeAnd, slice_get, length, Result, Ok, Err, OnOk, OnErr}
 use Rattle.std.specs.Borrow.{Bor}
 use Rattle.std.proofs.lemmas.List.{reverse-append}
@@ -153,3 +154,13 @@ one_asked t s e = cc (e)
 pub when_ok : {T E : Type 0} (r : Result T E) (P Q : Type 0) → OnOk r P → (P → Q) → OnOk r Q
 when_ok (Ok x) P Q p f = f p
 when_ok (Err e) P Q p f = tt
+
+-- the last part is taken off
+pub popped : (xs ys others : List Opened) (o : Opened) (n : ℕ) → xs ≡ others ++ o ∷ [] → n ≡ length xs →
+    ys ≡ take (n - 1) xs → ys ≡ others
+popped xs ys others o n was count now =
+    let l = ap (λ (z : List Opened). length z) was in
+    let k = length-append others (o ∷ []) in
+    let few : n - 1 ≡ length others = omega (arith, count, l, k) in
+    now ∙ ap (λ (i : ℕ). take i xs) few ∙ ap (λ (z : List Opened). take (length others) z) was
+    ∙ take-append_seam others (o ∷ [])

@@ -293,5 +293,5 @@ ClosesPart f = ClosesAs f.part f.place
 pub record IsSameBut (old new : ValueMaker) : Type 0 where
   pub table : new.table ≡ old.table
   pub of : new.of ≡ old.of
-  pub outer : new.outer ≡ old.outer
+  pub outer : new.outer.items ≡ old.outer.items
   pub inner : new.inner ≡ old.inner

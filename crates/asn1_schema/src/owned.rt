@@ -162,10 +162,10 @@ impl OwnedTape {
         ensures closed { OnOk result (ClosesRow place self.old self.new) }
         ensures err { OnErr result (Appends self.old self.new []) }
     {
-        let count = self.items.len().saturating_sub(place).saturating_sub(1);
-        self.push(&Item::End(count))?;
+        let inner = self.items.len().saturating_sub(place).saturating_sub(1);
+        self.push(&Item::End(inner))?;
         if place < self.items.len() {
-            self.items[place] = begin_of(count);
+            self.items[place] = begin_of(inner);
         }
         Ok(())
     }
