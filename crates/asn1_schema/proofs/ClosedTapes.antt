@@ -44,17 +44,17 @@ module _ (old mid new : OwnedTape) (place count : ℕ) (b : Placed) (front inner
       let n : count ≡ length inner = omega (arith, k, p, c) in
       let was : (more : List ℕ) → owned_with mid more ≡ front ++ begin_mark 0 ∷ (inner ++ end_mark count ∷ []) =
       λ more. l.0 more ∙ l.1 ∙ ap (λ (z : List Mark). z ++ end_mark count ∷ []) e
-          ∙ append_assoc front (begin_mark 0 ∷ inner) (end_mark count ∷ []) in
+      ∙ append_assoc front (begin_mark 0 ∷ inner) (end_mark count ∷ []) in
       let begun : (o : List ℕ) → placed_mark o b ≡ begin_mark count =
       λ o. ap (λ (s : Item). item_with_octets s (span o b.start b.len)) shape in
       let all : (more : List ℕ) → owned_with new more ≡
-          front ++ between (begin_mark (length inner)) inner (end_mark (length inner)) =
+      front ++ between (begin_mark (length inner)) inner (end_mark (length inner)) =
       λ more. ap (λ (o : List ℕ). map (placed_mark (o ++ more)) new.items.items) octets
-          ∙ ap (λ (z : List Placed). map (placed_mark (mid.octets.items ++ more)) z) set
-          ∙ set_mapped (placed_mark (mid.octets.items ++ more)) mid.items.items front (inner ++ end_mark count ∷ [])
-          (begin_mark 0) b place p (was more)
-          ∙ ap (λ (m : Mark). front ++ m ∷ (inner ++ end_mark count ∷ [])) (begun (mid.octets.items ++ more))
-          ∙ ap (λ (i : ℕ). front ++ between (begin_mark i) inner (end_mark i)) n in
+      ∙ ap (λ (z : List Placed). map (placed_mark (mid.octets.items ++ more)) z) set
+      ∙ set_mapped (placed_mark (mid.octets.items ++ more)) mid.items.items front (inner ++ end_mark count ∷ [])
+      (begin_mark 0) b place p (was more)
+      ∙ ap (λ (m : Mark). front ++ m ∷ (inner ++ end_mark count ∷ [])) (begun (mid.octets.items ++ more))
+      ∙ ap (λ (i : ℕ). front ++ between (begin_mark i) inner (end_mark i)) n in
       let own : owned_marks new ≡ front ++ between (begin_mark (length inner)) inner (end_mark (length inner)) =
       ap (λ (o : List ℕ). map (placed_mark o) new.items.items) (sym (append-nil new.octets.items)) ∙ all [] in
       (λ more. all more ∙ sym own, own)

@@ -163,7 +163,7 @@ whole_made table whole f others ms o part left =
       (
         one.0,
         i.is ∙ ap (λ (z : List Mark). z ++ (opening f.part ++ tapes_of i.kept)) first
-        ∙ ap (λ (p : Part). opening p ++ tapes_of i.kept) part ∙ one.1,
+            ∙ ap (λ (p : Part). opening p ++ tapes_of i.kept) part ∙ one.1,
         one.3,
       ),
     )
@@ -190,7 +190,7 @@ module _ (table : List Node) (whole : ℕ) (f o g : Opened) (others : List Opene
       ) in (
         c.0,
         subst (AreOpen table whole (g ∷ others)) (sym c.1)
-        (open_more table whole o g others w.0 (kept_row i.kept) t w.2 a size e v),
+            (open_more table whole o g others w.0 (kept_row i.kept) t w.2 a size e v),
       )
 
   -- an arm is

@@ -1,5 +1,6 @@
 -- What values a type has, whatever their encoding, and what a maker of values has made.
-use Rattle.std.specs.Prelude.{ℕ, ℤ, zero, suc, pos, ◌^◌, ◌-◌, ◌≡◌, ◌≢◌, ◌⊎◌, Bool, true, List, [], ◌∷◌, ◌++◌, length, min, reverse, drop}
+use Rattle.std.specs.Prelude.{ℕ, ℤ, zero, suc, pos, ◌^◌, ◌-◌, ◌≡◌, ◌≢◌, ◌⊎◌, Bool, true, List, [], ◌∷◌, ◌++◌, length}
+use Rattle.std.specs.Prelude.{min, reverse, drop}
 use Rattle.std.specs.Prelude.{Option, Some, None, slice_get, option_and_then, Contains, IfSome, IsSomeAnd}
 use Rattle.x690.specs.Arcs.{AreShortest}
 use Rattle.asn1_schema.specs.declared.schema.Tags.{Tags}
@@ -8,7 +9,8 @@ use Rattle.asn1_schema.specs.declared.schema.Field.{Field}
 use Rattle.asn1_schema.specs.declared.schema.Node.{Node}
 use Rattle.asn1_schema.specs.declared.schema.Kind.{Kind}
 use Rattle.asn1_schema.specs.declared.schema.Kind.TheVariants as kinds
-use Rattle.asn1_schema.specs.Values.{LeafValue, boolean, null, integer, enumerated, bits, octets, identifier, text, time, any}
+use Rattle.asn1_schema.specs.Values.{LeafValue, boolean, null, integer, enumerated, bits, octets, identifier, text}
+use Rattle.asn1_schema.specs.Values.{time, any}
 use Rattle.asn1_schema.specs.Values.{Value, Values, leaf, row, chosen, none, absent, more, measure, count}
 use Rattle.asn1_schema.specs.Grammar.{IsMeasured, IsText, has_tag, trimmed}
 use Rattle.asn1_schema.specs.Rules.{IsTime}
@@ -22,7 +24,8 @@ use Rattle.asn1_schema.specs.declared.making.Part.TheVariants as parts
 use Rattle.asn1_schema.specs.declared.making.Opened.{Opened}
 use Rattle.asn1_schema.specs.declared.making.ValueMaker.{ValueMaker}
 use Rattle.asn1_schema.specs.Owned.{Appends, owned_marks, owned_with}
-use Rattle.asn1_schema.specs.Tape.{Mark, mark, leaf_mark, begin_mark, end_mark, arm_mark, arm_end_mark, between, KeptRow, values_of, tapes_of}
+use Rattle.asn1_schema.specs.Tape.{Mark, mark, leaf_mark, begin_mark, end_mark, arm_mark, arm_end_mark, between}
+use Rattle.asn1_schema.specs.Tape.{KeptRow, values_of, tapes_of}
 
 -- Explicit tags and bounds.
 
@@ -176,8 +179,8 @@ opening (parts.Arm b k) = arm_mark k ∷ []
 abbrev pub HasComponents : List Node → ℕ → Part → List Field → Option ℕ → Type 0
 HasComponents table whole parts.Whole fs u = (fs ≡ one_field whole ∷ []) × (u ≡ None)
 HasComponents table whole (parts.Row b) fs u = IsSomeAnd (slice_get table b) (λ node. IsRowKind node.kind fs u)
-HasComponents table whole (parts.Arm b k) fs u = (a : ℕ) × IsSomeAnd (slice_get table b) (λ node. IsArmKind node.kind k a) ×
-    (fs ≡ one_field a ∷ []) × (u ≡ None)
+HasComponents table whole (parts.Arm b k) fs u =
+    (a : ℕ) × IsSomeAnd (slice_get table b) (λ node. IsArmKind node.kind k a) × (fs ≡ one_field a ∷ []) × (u ≡ None)
 
 -- nothing is round the whole
 abbrev pub MayBeIn : Part → List Opened → Type 0
@@ -202,7 +205,8 @@ pub record IsOpen (table : List Node) (whole : ℕ) (f : Opened) (others : List 
 -- So in all that are open, the innermost first.
 abbrev pub AreOpen : List Node → ℕ → List Opened → List Mark → Type 0
 AreOpen table whole [] ms = ms ≡ []
-AreOpen table whole (f ∷ others) ms = (front : List Mark) × IsOpen table whole f others front ms × AreOpen table whole others front
+AreOpen table whole (f ∷ others) ms =
+    (front : List Mark) × IsOpen table whole f others front ms × AreOpen table whole others front
 
 -- More octets change nothing of what stands on the tape.
 abbrev pub IsLasting : OwnedTape → Type 0

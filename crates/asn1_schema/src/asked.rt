@@ -1,6 +1,8 @@
 //! What is asked of a value of a type, whatever its encoding.
-ghost use Rattle.std.specs.Prelude.{ℕ, ℤ, ◌≡◌, Option, Some, None, IfSome, IfNone, IsTrue, slice_get, pos, min, ◌^◌, ◌-◌};
-ghost use Rattle.asn1_schema.specs.Making.{beneath, bare_type, KeepsAllBounds, IsMeasureOf, KeepsBounds};
+ghost use Rattle.std.specs.Prelude.{ℕ, ℤ, ◌≡◌, Option, Some, None, IfSome, IfNone, IsTrue};
+ghost use Rattle.std.specs.Prelude.{slice_get, pos, min, ◌^◌, ◌-◌};
+ghost use Rattle.asn1_schema.specs.Making.{beneath, bare_type, KeepsAllBounds, IsMeasureOf};
+ghost use Rattle.asn1_schema.specs.Making.{KeepsBounds};
 ghost use Rattle.asn1_schema.specs.Reading.{Admits, JudgesBounds};
 
 use crate::bounds::{item_within, size_within};
@@ -47,7 +49,11 @@ pub(crate) enum Measured<'a> {
 }
 
 /// Judges a value by bounds.
-fn judge_measure(measured: Measured<'_>, lower: Option<i128>, upper: Option<i128>) -> Result<(), Fault>
+fn judge_measure(
+    measured: Measured<'_>,
+    lower: Option<i128>,
+    upper: Option<i128>,
+) -> Result<(), Fault>
     ensures { (m : Option ℤ) → IsMeasureOf measured.entry m →
         JudgesBounds lower upper m result }
 {

@@ -2,7 +2,8 @@
 ghost use Rattle.std.specs.Prelude.{ℕ, ℤ, List, Bool, ◌≡◌, ◌≢◌, ◌↔◌, IsTrue, IfErr, OnOk};
 ghost use Rattle.x690.specs.Digits.{twos_complement_value};
 ghost use Rattle.asn1_schema.specs.declared.schema.Tags.{Tags};
-ghost use Rattle.asn1_schema.specs.Values.{boolean, null, integer, enumerated, bits, octets, identifier, text, time, any};
+ghost use Rattle.asn1_schema.specs.Values.{boolean, null, integer, enumerated, bits, octets};
+ghost use Rattle.asn1_schema.specs.Values.{identifier, text, time, any};
 ghost use Rattle.asn1_schema.specs.Bits.{used_bits};
 ghost use Rattle.asn1_schema.specs.Grammar.{trimmed};
 ghost use Rattle.asn1_schema.specs.Reading.{id_of};

@@ -1,6 +1,8 @@
 //! Values of the types of a table are made by hand: one component after the other, along the table.
-ghost use Rattle.std.specs.Prelude.{ℕ, ℤ, List, [], ◌∷◌, ◌++◌, ◌≡◌, ◌≢◌, ◌↔◌, ◌^◌, ◌-◌, ◌+◌, Some, None, Option, length, drop, min, reverse};
-ghost use Rattle.std.specs.Prelude.{IfSome, IfNone, IfOk, IfErr, OnOk, OnErr, IsTrue, IsSomeAnd, slice_get};
+ghost use Rattle.std.specs.Prelude.{ℕ, List, [], ◌∷◌, ◌++◌, ◌≡◌, ◌≢◌, ◌↔◌, ◌^◌, ◌-◌, ◌+◌, drop};
+ghost use Rattle.std.specs.Prelude.{min};
+ghost use Rattle.std.specs.Prelude.{IfSome, IfNone, IfOk, IfErr, OnOk, OnErr, IsTrue, IsSomeAnd};
+ghost use Rattle.std.specs.Prelude.{slice_get};
 ghost use Rattle.asn1_schema.specs.declared.fault.Fault.TheVariants as faults;
 ghost use Rattle.asn1_schema.specs.declared.making.Left.TheVariants as lefts;
 ghost use Rattle.asn1_schema.specs.declared.making.Part.TheVariants as parts;
@@ -8,10 +10,14 @@ ghost use Rattle.asn1_schema.specs.declared.making.MakeReason.TheVariants as rea
 ghost use Rattle.asn1_schema.specs.declared.schema.Field.{Field};
 ghost use Rattle.asn1_schema.specs.declared.schema.Node.{Node};
 ghost use Rattle.asn1_schema.specs.Owned.{Appends, owned_marks};
-ghost use Rattle.asn1_schema.specs.Tape.{Mark, Kept, mark, tape_of, value_of, begin_mark, absent_mark, arm_mark};
-ghost use Rattle.asn1_schema.specs.Making.{fields_to_make, members_left, type_asked, IsRowKind, IsArmKind, IsOptionalNext};
-ghost use Rattle.asn1_schema.specs.Making.{IsMaking, MayPut, MayBegin, MayChoose, MayEnd, IsAdvanced, IsMarkAt, IsValue};
-ghost use Rattle.asn1_schema.specs.Making.{GoesOn, OpensPart, ClosesPart, IsSameBut, IsEndOf, IsWholeMade};
+ghost use Rattle.asn1_schema.specs.Tape.{Mark, Kept, mark, tape_of, value_of, begin_mark};
+ghost use Rattle.asn1_schema.specs.Tape.{absent_mark, arm_mark};
+ghost use Rattle.asn1_schema.specs.Making.{fields_to_make, members_left, type_asked, IsRowKind};
+ghost use Rattle.asn1_schema.specs.Making.{IsArmKind, IsOptionalNext};
+ghost use Rattle.asn1_schema.specs.Making.{IsMaking, MayPut, MayBegin, MayChoose, MayEnd};
+ghost use Rattle.asn1_schema.specs.Making.{IsAdvanced, IsMarkAt, IsValue};
+ghost use Rattle.asn1_schema.specs.Making.{GoesOn, OpensPart, ClosesPart, IsSameBut, IsEndOf};
+ghost use Rattle.asn1_schema.specs.Making.{IsWholeMade};
 
 use crate::asked::{Measured, bare_type, judge_all_bounds};
 use crate::fault::Fault;
@@ -49,7 +55,7 @@ pub enum MakeReason {
     StillOpen,
 }
 
-/// Why and where a maker refuses.
+/// Why and where a maker refuses. Which reason comes, and with which place, is tested and not proved.
 #[derive(Debug, Clone, Copy, PartialEq, Eq)]
 pub struct Mistake {
     /// Why.
@@ -157,7 +163,8 @@ fn is_complete(left: Left<'_>) -> bool
 
 /// The fields of a row of a kind, and the type of the members behind them.
 fn row_of(kind: &Kind) -> Option<Left<'_>>
-    ensures some { IfSome result (λ left. IsRowKind kind.now (fields_to_make left) (members_left left)) }
+    ensures some { IfSome result
+        (λ left. IsRowKind kind.now (fields_to_make left) (members_left left)) }
     ensures none { IfNone result ((fs : List Field) (u : Option ℕ) → IsRowKind kind.now fs u → ⊥) }
 {
     match kind {
@@ -211,7 +218,8 @@ fn without_field<'n>(opened: Opened<'n>) -> Opened<'n>
 
 /// The innermost part round what is open.
 fn last_opened<'n>(outer: &[Opened<'n>]) -> Option<Opened<'n>>
-    ensures some { IfSome result (λ last. (others : List Opened) × (outer.now ≡ others ++ last ∷ [])) }
+    ensures some { IfSome result
+        (λ last. (others : List Opened) × (outer.now ≡ others ++ last ∷ [])) }
     ensures none { IfNone result (outer.now ≡ []) }
 {
     match outer.split_last() {
@@ -460,7 +468,8 @@ impl<'n> ValueMaker<'n> {
             Appends self.old.tape self.new.tape (mark item.now ∷ [])) }
         ensures refused { IfErr result (λ e. e.reason ≢ reasons.OutOfMemory →
             MayPut self.old (mark item.now) → ⊥) }
-        ensures unchanged { IfErr result (λ e. e.reason ≢ reasons.OutOfMemory → self.new ≡ self.old) }
+        ensures unchanged { IfErr result (λ e. e.reason ≢ reasons.OutOfMemory →
+            self.new ≡ self.old) }
         ensures making { (table : List Node) (of : ℕ) → IsMaking table of self.old →
             IsMaking table of self.new }
     {
@@ -480,7 +489,8 @@ impl<'n> ValueMaker<'n> {
             Appends self.old.tape self.new.tape (absent_mark ∷ [])) }
         ensures refused { IfErr result (λ e. e.reason ≢ reasons.OutOfMemory →
             IsOptionalNext (fields_to_make self.old.inner.left) → ⊥) }
-        ensures unchanged { IfErr result (λ e. e.reason ≢ reasons.OutOfMemory → self.new ≡ self.old) }
+        ensures unchanged { IfErr result (λ e. e.reason ≢ reasons.OutOfMemory →
+            self.new ≡ self.old) }
         ensures making { (table : List Node) (of : ℕ) → IsMaking table of self.old →
             IsMaking table of self.new }
     {
@@ -495,8 +505,10 @@ impl<'n> ValueMaker<'n> {
     pub fn begin(&mut self) -> Result<(), Mistake>
         ensures ok { OnOk result (MayBegin self.old ×
             Appends self.old.tape self.new.tape (begin_mark 0 ∷ [])) }
-        ensures refused { IfErr result (λ e. e.reason ≢ reasons.OutOfMemory → MayBegin self.old → ⊥) }
-        ensures unchanged { IfErr result (λ e. e.reason ≢ reasons.OutOfMemory → self.new ≡ self.old) }
+        ensures refused { IfErr result (λ e. e.reason ≢ reasons.OutOfMemory →
+            MayBegin self.old → ⊥) }
+        ensures unchanged { IfErr result (λ e. e.reason ≢ reasons.OutOfMemory →
+            self.new ≡ self.old) }
         ensures making { (table : List Node) (of : ℕ) → IsMaking table of self.old →
             IsMaking table of self.new }
     {
@@ -516,7 +528,8 @@ impl<'n> ValueMaker<'n> {
             Appends self.old.tape self.new.tape (arm_mark arm ∷ [])) }
         ensures refused { IfErr result (λ e. e.reason ≢ reasons.OutOfMemory →
             MayChoose self.old arm → ⊥) }
-        ensures unchanged { IfErr result (λ e. e.reason ≢ reasons.OutOfMemory → self.new ≡ self.old) }
+        ensures unchanged { IfErr result (λ e. e.reason ≢ reasons.OutOfMemory →
+            self.new ≡ self.old) }
         ensures making { (table : List Node) (of : ℕ) → IsMaking table of self.old →
             IsMaking table of self.new }
     {
@@ -551,9 +564,11 @@ impl<'n> ValueMaker<'n> {
     /// `MissingField` says that a component or the value of the arm is not there, and `Bounds` that the row has too few
     /// or too many values.
     pub fn end(&mut self) -> Result<(), Mistake>
-        ensures ok { OnOk result (MayEnd self.old × ClosesPart self.old.inner self.old.tape self.new.tape) }
+        ensures ok { OnOk result (MayEnd self.old ×
+            ClosesPart self.old.inner self.old.tape self.new.tape) }
         ensures refused { IfErr result (λ e. e.reason ≢ reasons.OutOfMemory → MayEnd self.old → ⊥) }
-        ensures unchanged { IfErr result (λ e. e.reason ≢ reasons.OutOfMemory → self.new ≡ self.old) }
+        ensures unchanged { IfErr result (λ e. e.reason ≢ reasons.OutOfMemory →
+            self.new ≡ self.old) }
         ensures making { (table : List Node) (of : ℕ) → IsMaking table of self.old →
             IsMaking table of self.new }
     {

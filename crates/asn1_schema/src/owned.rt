@@ -1,5 +1,6 @@
 //! Tapes that own their octets. They outlive what they were copied from, and may be made item by item.
-ghost use Rattle.std.specs.Prelude.{ℕ, List, [], ◌∷◌, ◌≡◌, ◌↔◌, OnOk, OnErr, IfOk, IsTrue, length, drop};
+ghost use Rattle.std.specs.Prelude.{ℕ, List, [], ◌∷◌, ◌≡◌, ◌↔◌, OnOk, OnErr, IfOk, IsTrue, length};
+ghost use Rattle.std.specs.Prelude.{drop};
 ghost use Rattle.asn1_schema.specs.declared.tape.Item.TheVariants as items;
 ghost use Rattle.asn1_schema.specs.Making.{ClosesRow};
 ghost use Rattle.asn1_schema.specs.Tape.{Mark, begin_mark, between, end_mark, mark, marks};

@@ -16,8 +16,8 @@ returns-in-Some-row_at-clause-ok c =
         members_left left,
         sym c.in-Some.ensures,
         subst (λ (t : ℕ). IsSomeAnd (slice_get c.args.self.now.table.now t)
-        (λ node. IsRowKind node.kind (fields_to_make left) (members_left left))) c.bare_type-row.ensures
-        c.in-Some-row_at.ensures.some,
+            (λ node. IsRowKind node.kind (fields_to_make left) (members_left left))) c.bare_type-row.ensures
+            c.in-Some-row_at.ensures.some,
       ),
       s.appends,
     ))
