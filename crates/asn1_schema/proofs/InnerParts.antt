@@ -1,9 +1,7 @@
 -- Parts of a tape: the members of a row one by one, and the way down to the innermost.
 use Rattle.std.proofs.Common.{◌≡◌, ◌∙◌, ap, sym, subst, refl, ℕ, zero, suc, ◌+◌, ◌-◌, ◌*◌, ◌<◌, ◌≤◌, min, inl, inr, Bool, true, false, List, [], ◌∷◌, ◌++◌, append_assoc, append-nil, length, length-append, arith}
-use Rattle.std.specs.Prelude.{ℤ, ◌⊎◌, Option, Some, None, slice_get, Result, Ok, Err, IfOk, IfSome, IfNone}
+use Rattle.std.specs.Prelude.{◌⊎◌, Option, Some, None, slice_get, Result, Ok, Err, IfOk, IfSome, IfNone}
 use Rattle.std.specs.declared.alloc.AllocError.{AllocError}
-use Rattle.std.specs.declared.alloc.Global.{Global}
-use Rattle.std.specs.declared.vec.Vec.{Vec}
 use Rattle.std.proofs.lemmas.Bool.{cases_lt}
 use Rattle.std.proofs.lemmas.List.{length-map}
 use Rattle.std.proofs.Math.Nat.{min-le_right}
@@ -90,15 +88,6 @@ none_behind : (ms : KeptRow) → member_count (values_of ms) ≡ 0 → tapes_of 
 none_behind kept_none e = refl
 none_behind (kept_absent ms) e = absurd (omega (arith, e))
 none_behind (kept_more k ms) e = absurd (omega (arith, e))
-
--- a value has items
-some_items : (k : Kept) (r : List Mark) → [] ≡ tape_of k ++ r → ⊥
-some_items k r e =
-    let f = few_members (kept_more k kept_none) in
-    let l = ap (λ (ms : List Mark). length ms) e in
-    let a = length-append (tape_of k) r in
-    let b = ap (λ (ms : List Mark). length ms) (append-nil (tape_of k)) in
-    omega (arith, f, l, a, b)
 
 -- where one member has no type, none behind it has
 no_type_behind : (fields : List Field) (others : Option ℕ) (i j : ℕ) → i ≤ j →
@@ -501,22 +490,6 @@ found_own table p node found some (Ok None) f = λ q kept i e.
     f q kept (subst (λ (n : Node). IsPartOfKind n.kind p q) (sym same) i.own) e
 found_own table p node found some (Err e) f = tt
 
-pub no_depth : (table : List Node) (p : TapePart) → p.depth ≡ 0 → AreEncodable table (IsOwnPart table p)
-no_depth table p z q kept i e = let s = i.some in absurd (omega (arith, s, z))
-
-pub no_node : (table : List Node) (p : TapePart) → node_at table p.of ≡ None → AreEncodable table (IsOwnPart table p)
-no_node table p z q kept i e = let g = sym z ∙ i.found in absurd (cc (g))
-
-pub no_row : (table : List Node) (fields : List Field) (others : Option ℕ) (p : TapePart) →
-    ((n m : ℕ) (inner : List Mark) → p.items ≡ between (begin_mark n) inner (end_mark m) → ⊥) →
-    AreEncodable table (IsRowMember fields others p)
-no_row table fields others p none q kept i e = absurd (none i.begin i.end (tapes_of i.front ++ i.rest) i.row)
-
-pub no_arm_items : (table : List Node) (arms : List ℕ) (p : TapePart) →
-    ((k : ℕ) (inner : List Mark) → p.items ≡ between (arm_mark k) inner (arm_end_mark k) → ⊥) →
-    AreEncodable table (IsArmPart arms p)
-no_arm_items table arms p none q kept i e = absurd (none i.arm q.items i.is)
-
 module _ (table : List Node) (arms : List ℕ) (p : TapePart) (k : ℕ) (inner : List Mark)
     (is : p.items ≡ between (arm_mark k) inner (arm_end_mark k)) where
   same_arm : (q : TapePart) (i : IsArmPart arms p q) → (k ≡ i.arm) × (inner ≡ q.items)
@@ -525,12 +498,6 @@ module _ (table : List Node) (arms : List ℕ) (p : TapePart) (k : ℕ) (inner :
       (sym is ∙ i.is) in
       let first = b.0 in
       (cc (first), b.1)
-
-  pub no_arm_type : slice_get arms k ≡ None → AreEncodable table (IsArmPart arms p)
-  no_arm_type none q kept i e =
-      let s = same_arm q i in
-      let g = sym none ∙ (ap (λ (j : ℕ). slice_get arms j) s.0 ∙ i.type) in
-      absurd (cc (g))
 
   pub arm_found : (t : ℕ) → slice_get arms k ≡ Some t → (r : Result (Option RefusedPart) AllocError) →
       IfOk r (λ x. IfSome x (λ q. (tape_part q ≡ record p { items = inner; first = suc p.first; of = t }) ×
@@ -588,20 +555,3 @@ same_found table part (Ok (Some q)) some none =
     (some.0, subst (λ (z : TapePart). IsNotEncodable table z) (sym some.0) some.1)
 same_found table part (Ok None) some none = λ q kept i e. subst (λ (z : TapePart). IsEncodable table z) (sym i) none
 same_found table part (Err e) some none = tt
-
--- no value of another kind has parts
-pub leaf_parts : (table : List Node) (kind : Kind) (p : TapePart) →
-    ((fields : Vec Field Global) (unknown : Option ℕ) → kind ≡ kinds.Sequence fields unknown → ⊥) →
-    ((fields : Vec Field Global) (unknown : Option ℕ) → kind ≡ kinds.Set fields unknown → ⊥) →
-    ((t : ℕ) → kind ≡ kinds.SequenceOf t → ⊥) → ((t : ℕ) → kind ≡ kinds.SetOf t → ⊥) →
-    ((arms : Vec ℕ Global) → kind ≡ kinds.Choice arms → ⊥) →
-    ((t : ℕ) (lower upper : Option ℤ) → kind ≡ kinds.Within t lower upper → ⊥) →
-    ((t : ℕ) → kind ≡ kinds.Explicit t → ⊥) → AreEncodable table (IsPartOfKind kind p)
-leaf_parts table (kinds.Sequence fields unknown) p a b c d e f g = absurd (a fields unknown refl)
-leaf_parts table (kinds.Set fields unknown) p a b c d e f g = absurd (b fields unknown refl)
-leaf_parts table (kinds.SequenceOf t) p a b c d e f g = absurd (c t refl)
-leaf_parts table (kinds.SetOf t) p a b c d e f g = absurd (d t refl)
-leaf_parts table (kinds.Choice arms) p a b c d e f g = absurd (e arms refl)
-leaf_parts table (kinds.Within t lower upper) p a b c d e f g = absurd (f t lower upper refl)
-leaf_parts table (kinds.Explicit t) p a b c d e f g = absurd (g t refl)
-leaf_parts table _ p a b c d e f g = λ q kept i h. absurd i
