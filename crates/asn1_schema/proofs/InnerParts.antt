@@ -299,10 +299,12 @@ module _ (table : List Node) (fields : List Field) (others : Option ℕ) (p : Ta
       rest_marks rest items behind e = ap marks e ∙ map_joined items behind
 
   pub member_told : (P : TapePart) (place of first : ℕ) (ms : List Mark) →
-      P ≡ member_part (slice_get fields place) place of first ms p → (P.items ≡ absent_mark ∷ []) ⊎ IsEncodable table P →
+      P ≡ member_part (slice_get fields place) place of first ms p → (o : Option RefusedPart) → o ≡ None →
+      IfNone o ((P.items ≡ absent_mark ∷ []) ⊎ IsEncodable table P) →
       (ms ≡ absent_mark ∷ []) ⊎ MarksHaveWord (Word strict table (p.depth - 1) of) ms
-  member_told P place of first ms is told =
-      subst (λ (z : TapePart). (z.items ≡ absent_mark ∷ []) ⊎ IsEncodable table z) is told
+  member_told P place of first ms is o none told =
+      subst (λ (z : TapePart). (z.items ≡ absent_mark ∷ []) ⊎ IsEncodable table z) is
+      (subst (λ (x : Option RefusedPart). IfNone x ((P.items ≡ absent_mark ∷ []) ⊎ IsEncodable table P)) none told)
 
   pub member_found : (rest items behind : List Item) (place : ℕ) →
       (so_far : MembersSoFar table (p.depth - 1) fields others inner rest place) → rest ≡ items ++ behind →
@@ -312,19 +314,17 @@ module _ (table : List Node) (fields : List Field) (others : Option ℕ) (p : Ta
       first ≡ suc (p.first + (length inner - length rest)) →
       (length rest ≡ 0 → slice_get fields place ≡ None → ⊥) →
       type_of_member (slice_get fields place) others ≡ Some of →
-      optional ≡ may_be_absent (slice_get fields place) → (r : Result (Option RefusedPart) AllocError) →
-      IfOk r (λ x. IfSome x (λ q. (tape_part q ≡ P) × IsNotEncodable table P ×
-      (P.items ≡ absent_mark ∷ [] → optional ≡ false))) → (r ≡ Ok None → ⊥) →
-      FindsPart table (IsRowMember fields others p) r
-  member_found rest items behind place so_far joined value P of first optional is at there type may (Ok (Some q)) some not =
+      optional ≡ may_be_absent (slice_get fields place) → (o : Option RefusedPart) (q : RefusedPart) → o ≡ Some q →
+      IfSome o (λ z. (tape_part z ≡ P) × IsNotEncodable table P × (P.items ≡ absent_mark ∷ [] → optional ≡ false)) →
+      FindsPart table (IsRowMember fields others p) (Ok (Some q))
+  member_found rest items behind place so_far joined value P of first optional is at there type may o q found told =
+      let some = subst (λ (x : Option RefusedPart). IfSome x (λ z. (tape_part z ≡ P) × IsNotEncodable table P ×
+      (P.items ≡ absent_mark ∷ [] → optional ≡ false))) found told in
       let e = some.0 ∙ is in (
         is_member rest items behind place so_far joined value (tape_part q) of first e at there type (λ z.
             sym may ∙ some.2 (ap (λ (y : TapePart). y.items) is ∙ z)),
         subst (λ (z : TapePart). IsNotEncodable table z) (sym some.0) some.1,
       )
-  member_found rest items behind place so_far joined value P of first optional is at there type may (Ok None) some not =
-      absurd (not refl)
-  member_found rest items behind place so_far joined value P of first optional is at there type may (Err e) some not = tt
 
 -- what is found is such a part
 pub found_part : (table : List Node) (Own : TapePart → Type 0) (part : TapePart)
@@ -336,6 +336,24 @@ found_part table Own part (Ok (Some q)) own some none =
     (own (tape_part q) some.0 some.1, subst (λ (z : TapePart). IsNotEncodable table z) (sym some.0) some.1)
 found_part table Own part (Ok None) own some none = none
 found_part table Own part (Err e) own some none = tt
+
+pub found_some : (table : List Node) (Own : TapePart → Type 0) (o : Option RefusedPart) (q : RefusedPart) → o ≡ Some q →
+    FindsPart table Own (Ok o) → Own (tape_part q) × IsNotEncodable table (tape_part q)
+found_some table Own o q is found = subst (λ (x : Option RefusedPart). FindsPart table Own (Ok x)) is found
+
+pub found_none : (table : List Node) (Own : TapePart → Type 0) (o : Option RefusedPart) → o ≡ None →
+    FindsPart table Own (Ok o) → AreEncodable table Own
+found_none table Own o is found = subst (λ (x : Option RefusedPart). FindsPart table Own (Ok x)) is found
+
+-- what is told of a part that is tried
+pub tried_some : (table : List Node) (part : TapePart) (o : Option RefusedPart) (q : RefusedPart) → o ≡ Some q →
+    IfSome o (λ z. (tape_part z ≡ part) × IsNotEncodable table part) → (tape_part q ≡ part) × IsNotEncodable table part
+tried_some table part o q is told =
+    subst (λ (x : Option RefusedPart). IfSome x (λ z. (tape_part z ≡ part) × IsNotEncodable table part)) is told
+
+pub tried_none : (table : List Node) (part : TapePart) (o : Option RefusedPart) → o ≡ None →
+    IfNone o (IsEncodable table part) → IsEncodable table part
+tried_none table part o is told = subst (λ (x : Option RefusedPart). IfNone x (IsEncodable table part)) is told
 
 -- The way down.
 

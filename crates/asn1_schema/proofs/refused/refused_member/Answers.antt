@@ -33,7 +33,8 @@ returns-in-Ok-Some c =
     ((c.args.outer.now.first + 1) + (length c.in-Some.inner.now - length c.loop-place.rest.now)) c.is_optional_at.result
     (c.member_of-part.ensures c.args.fields.now refl) (omega arith)
     (λ z none. false≢true (sym c.if-is_behind.false ∙ c.is_behind.ensures.no z none))
-    (sym c.in-Some-member_type.ensures) c.is_optional_at.ensures _ c.in-Ok-Some.ensures.some (λ z. absurd (cc (z)))
+    (sym c.in-Some-member_type.ensures) c.is_optional_at.ensures c.in-Ok-Some.field-0
+    c.in-Ok-Some.found c.in-Ok-Some.field-0-is c.in-Ok-Some.ensures.some
 
 pub loop-place-preserved : goal.loop-place-preserved
 loop-place-preserved c =
@@ -45,7 +46,8 @@ loop-place-preserved c =
     c.in-Some.ensures.some.0 c.in-Some.ensures.some.1 c.in-Some.ensures.some.2 (tape_part c.member_of-part.result)
     c.loop-place.place c.in-Some-member_type.of
     ((c.args.outer.now.first + 1) + (length c.in-Some.inner.now - length c.loop-place.rest.now))
-    (marks c.split_value.result.0.now) (c.member_of-part.ensures c.args.fields.now refl) c.in-Ok-None.ensures.none)
+    (marks c.split_value.result.0.now) (c.member_of-part.ensures c.args.fields.now refl) c.in-Ok-None.field-0
+    c.in-Ok-None.field-0-is c.in-Ok-None.ensures.none)
 
 pub returns : goal.returns
 returns c =
