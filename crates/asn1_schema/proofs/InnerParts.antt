@@ -14,9 +14,9 @@ use Rattle.asn1_schema.specs.declared.refused.RefusedPart.{RefusedPart}
 use Rattle.asn1_schema.specs.Grammar.{Word}
 use Rattle.asn1_schema.specs.Rules.{strict}
 use Rattle.asn1_schema.specs.Sound.{is_sound, leads_back, node_at}
-use Rattle.asn1_schema.specs.Tape.{Kept, KeptRow, kept_leaf, kept_string, kept_bits, kept_row, kept_chosen, kept_none, kept_absent, kept_more, Mark, mark, marks, between, begin_mark, end_mark, absent_mark, arm_mark, arm_end_mark, value_of, values_of, tape_of, tapes_of}
+use Rattle.asn1_schema.specs.Tape.{Kept, KeptRow, kept_leaf, kept_string, kept_bits, kept_row, kept_chosen, kept_none, kept_absent, kept_more, Mark, mark, marks, between, begin_mark, end_mark, absent_mark, arm_mark, arm_end_mark, values_of, tape_of, tapes_of}
 use Rattle.asn1_schema.specs.Writing.{member_count}
-use Rattle.asn1_schema.specs.RefusedParts.{MarksHaveWord, MarksHaveNoWord, TapePart, tape_part, StandsAt, IsEncodable, IsNotEncodable, type_of_member, may_be_absent, member_part, IsRowMember, IsArmPart, IsPartOfKind, IsOwnPart, IsPartWithin, AreEncodable, FindsPart, IsInnermost}
+use Rattle.asn1_schema.specs.RefusedParts.{MarksHaveWord, TapePart, tape_part, StandsAt, IsEncodable, IsNotEncodable, type_of_member, may_be_absent, member_part, IsRowMember, IsArmPart, IsPartOfKind, IsOwnPart, IsPartWithin, AreEncodable, FindsPart, IsInnermost}
 use Rattle.asn1_schema.proofs.SameParts.{same_last}
 use Rattle.asn1_schema.proofs.OneTape.{one_tape}
 use Rattle.asn1_schema.proofs.MembersCounted.{few_members}
@@ -350,10 +350,6 @@ pub tried_some : (table : List Node) (part : TapePart) (o : Option RefusedPart) 
     IfSome o (λ z. (tape_part z ≡ part) × IsNotEncodable table part) → (tape_part q ≡ part) × IsNotEncodable table part
 tried_some table part o q is told =
     subst (λ (x : Option RefusedPart). IfSome x (λ z. (tape_part z ≡ part) × IsNotEncodable table part)) is told
-
-pub tried_none : (table : List Node) (part : TapePart) (o : Option RefusedPart) → o ≡ None →
-    IfNone o (IsEncodable table part) → IsEncodable table part
-tried_none table part o is told = subst (λ (x : Option RefusedPart). IfNone x (IsEncodable table part)) is told
 
 -- The way down.
 

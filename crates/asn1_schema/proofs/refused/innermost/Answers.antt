@@ -1,4 +1,4 @@
-use Rattle.std.proofs.Common.{◌≡◌, ap, length, arith}
+use Rattle.std.proofs.Common.{arith}
 use Rattle.std.proofs.lemmas.List.{length-map}
 use Rattle.asn1_schema.specs.Tape.{mark}
 use Rattle.asn1_schema.specs.RefusedParts.{tape_part, IsOwnPart}

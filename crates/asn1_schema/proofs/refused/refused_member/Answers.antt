@@ -1,4 +1,4 @@
-use Rattle.std.proofs.Common.{◌≡◌, ◌∙◌, sym, refl, ℕ, ◌+◌, ◌-◌, ◌≤◌, length, arith}
+use Rattle.std.proofs.Common.{◌∙◌, sym, refl, ◌+◌, ◌-◌, length, arith}
 use Rattle.std.proofs.lemmas.Bool.{false≢true}
 use Rattle.asn1_schema.specs.Tape.{marks}
 use Rattle.asn1_schema.specs.RefusedParts.{tape_part}

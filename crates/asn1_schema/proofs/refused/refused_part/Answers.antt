@@ -1,4 +1,4 @@
-use Rattle.std.proofs.Common.{◌≡◌, sym, subst}
+use Rattle.std.proofs.Common.{sym, subst}
 use Rattle.asn1_schema.specs.RefusedParts.{TapePart, whole_part, IsNotEncodable}
 use Rattle.asn1_schema.proofs.InnerParts.{tried_some}
 use Rattle.asn1_schema.proofs.refused.refused_part.Goals as goal
