@@ -23,3 +23,5 @@ pub mod Writing
 pub mod Encoding
 pub mod Differing
 pub mod Refusals
+pub mod RefusedParts
+pub mod Making
