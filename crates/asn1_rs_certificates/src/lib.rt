@@ -1,6 +1,6 @@
-//! Certificates of X.509 (RFC 5280, 4.1), requests for them (RFC 2986), their status (RFC 6960) and signed content
-//! (RFC 5652), as structs of fields. They are read by DER exactly where their grammar says, and borrowed from the
-//! octets. They are written as their one strict encoding.
+//! Certificates of X.509 (RFC 5280, 4.1), requests for them (RFC 2986), their status (RFC 6960), signed content
+//! (RFC 5652) and time stamps (RFC 3161), as structs of fields. They are read by DER exactly where their grammar says,
+//! and borrowed from the octets. They are written as their one strict encoding.
 #![tactic(auto)]
 
 mod added;
@@ -14,7 +14,9 @@ mod signed;
 mod signed_data;
 mod signer;
 mod single_response;
+mod stamp_details;
 mod status;
+mod time_stamp;
 mod times;
 mod verified;
 
@@ -50,6 +52,10 @@ pub use status::{
     BasicOcspResponse, BasicOcspResponseRow, OcspResponse, OcspResponseRow, ResponderCertificates,
     ResponseBytes, ResponseBytesRow, TaggedResponseBytes, basic_response_vec, ocsp_response_vec,
     read_basic_response, read_ocsp_response,
+};
+pub use time_stamp::{
+    MessageImprint, MessageImprintRow, StampAuthority, StampExtensions, TstInfo, TstInfoRow,
+    read_tst_info, tst_info_vec,
 };
 pub use times::year_of;
 pub use verified::{SignedCertificate, SignedCertificateRow, read_signed_certificate};

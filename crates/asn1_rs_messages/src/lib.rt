@@ -10,6 +10,7 @@ mod alarm;
 mod content;
 mod extension;
 mod hashed;
+mod lamp;
 mod measurement;
 mod public_key;
 mod reminder;
@@ -45,6 +46,7 @@ pub use validity::{Validity, ValidityRow, read_validity, read_validity_by_ber, v
 
 // each of which shows what a field or a choice may be
 pub use alarm::{Alarm, AlarmRow, Muted, alarm_vec, read_alarm, read_alarm_by_ber};
+pub use lamp::{Brightness, Lamp, LampRow, lamp_vec, read_lamp, read_lamp_by_ber};
 pub use measurement::{
     Measurement, MeasurementRow, measurement_set_vec, measurement_vec, read_measurement,
     read_measurement_by_ber, read_measurement_set,

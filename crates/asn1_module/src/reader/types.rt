@@ -1,4 +1,4 @@
-//! Types (X.680 17 to 48).
+//! Types (X.680 17 to 48), read by functions that call each other. No clause says what is read: `tests_module` asks.
 
 use crate::mistake::{ModuleError, Place, Wrong};
 use crate::reader::Reader;
@@ -90,6 +90,9 @@ const NO_NUMBERS: Span = Span { start: 0, end: 0 };
 
 impl<'s, 't> Reader<'s, 't> {
     /// Reads a type with its tags and constraints, and answers its place.
+    ///
+    /// Refused with `Wrong::Depth` where types nest [`MOST_DEPTH`](super::MOST_DEPTH) deep or deeper, each tag counted.
+    /// That is a limit of this crate, and not of X.680.
     #[cycle(types)]
     pub(crate) fn read_type(&mut self, depth: usize) -> Result<usize, ModuleError> {
         let place = self.place();
