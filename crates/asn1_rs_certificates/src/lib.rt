@@ -6,6 +6,7 @@
 mod added;
 mod certificate;
 mod holder;
+mod kept;
 mod names;
 mod profile;
 mod request;
@@ -23,6 +24,7 @@ mod verified;
 pub use certificate::{
     Certificate, CertificateRow, certificate_vec, read_certificate, read_certificate_whole,
 };
+pub use kept::{kept_certificate, kept_request};
 pub use names::{Attribute, AttributeRow, Name};
 pub use request::{
     CertificationRequest, CertificationRequestInfo, CertificationRequestInfoRow,

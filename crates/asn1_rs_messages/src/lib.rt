@@ -25,7 +25,8 @@ mod validity;
 // of X.509, PKCS and CMS
 pub use content::{
     Attribute, AttributeRow, Content, ContentInfo, ContentRow, attribute_vec, content_vec,
-    read_attribute, read_attribute_by_ber, read_content, read_content_by_ber,
+    kept_attribute, kept_content, read_attribute, read_attribute_by_ber, read_content,
+    read_content_by_ber,
 };
 pub use extension::{
     Extension, ExtensionRow, extension_vec, kept_extension, read_extension, read_extension_by_ber,
