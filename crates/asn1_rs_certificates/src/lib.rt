@@ -20,6 +20,9 @@ mod status;
 mod time_stamp;
 mod times;
 mod verified;
+mod verified_content;
+mod verified_request;
+mod verified_response;
 
 pub use certificate::{
     Certificate, CertificateRow, certificate_vec, read_certificate, read_certificate_whole,
@@ -61,3 +64,9 @@ pub use time_stamp::{
 };
 pub use times::year_of;
 pub use verified::{SignedCertificate, SignedCertificateRow, read_signed_certificate};
+pub use verified_content::{
+    KeptAttributes, VerifiableDataRow, VerifiableSignedData, VerifiableSignerInfo,
+    VerifiableSignerRow, read_verifiable_signed_data,
+};
+pub use verified_request::{SignedRequest, SignedRequestRow, read_signed_request};
+pub use verified_response::{SignedResponse, SignedResponseRow, read_signed_response};
