@@ -5,10 +5,12 @@ pub mod Tokens
 pub mod Walk
 pub mod Shown
 pub mod Numerals
+pub mod ArcTexts
 pub mod Found
-pub mod Made
 pub mod DenotedLeaves
 pub mod Denotes
+pub mod HaveWords
 pub mod MadeFrom
 pub mod Trees
 pub mod Outcomes
+pub mod OnlyRows
