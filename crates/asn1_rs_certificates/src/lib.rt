@@ -27,115 +27,59 @@ mod verified_content;
 mod verified_request;
 mod verified_response;
 
-pub use certificate::Certificate;
-pub use certificate::CertificateRow;
-pub use certificate::certificate_vec;
-pub use certificate::read_certificate;
-pub use certificate::read_certificate_whole;
-pub use kept::kept_certificate;
-pub use kept::kept_request;
-pub use kept_stamps::kept_stamp_answer;
-pub use kept_stamps::kept_stamp_request;
-pub use kept_stamps::kept_tst_info;
-pub use names::Attribute;
-pub use names::AttributeRow;
-pub use names::Name;
-pub use request::CertificationRequest;
-pub use request::CertificationRequestInfo;
-pub use request::CertificationRequestInfoRow;
-pub use request::CertificationRequestRow;
-pub use request::RequestAttributes;
-pub use request::read_request;
-pub use request::request_vec;
-pub use response_data::ResponderId;
-pub use response_data::ResponderIdArms;
-pub use response_data::ResponderKey;
-pub use response_data::ResponderName;
-pub use response_data::ResponseData;
-pub use response_data::ResponseDataRow;
-pub use response_data::ResponseExtensions;
-pub use signed::Extensions;
-pub use signed::FirstVersion;
-pub use signed::IssuerUniqueId;
-pub use signed::SubjectUniqueId;
-pub use signed::TbsCertificate;
-pub use signed::TbsCertificateRow;
-pub use signed::Version;
-pub use signed_data::EncapsulatedContentInfo;
-pub use signed_data::EncapsulatedContentRow;
-pub use signed_data::RevocationLists;
-pub use signed_data::SignedContent;
-pub use signed_data::SignedData;
-pub use signed_data::SignedDataRow;
-pub use signed_data::SignerCertificates;
-pub use signed_data::read_signed_data;
-pub use signed_data::signed_data_vec;
-pub use signer::IssuerAndSerialNumber;
-pub use signer::IssuerAndSerialRow;
-pub use signer::SignedAttributes;
-pub use signer::SignerIdentifier;
-pub use signer::SignerIdentifierArms;
-pub use signer::SignerInfo;
-pub use signer::SignerInfoRow;
-pub use signer::SubjectKeyIdentifier;
-pub use signer::UnsignedAttributes;
-pub use single_response::CertId;
-pub use single_response::CertIdRow;
-pub use single_response::CertStatus;
-pub use single_response::CertStatusArms;
-pub use single_response::Good;
-pub use single_response::NextUpdate;
-pub use single_response::RevocationReason;
-pub use single_response::Revoked;
-pub use single_response::RevokedInfo;
-pub use single_response::RevokedInfoRow;
-pub use single_response::SingleResponse;
-pub use single_response::SingleResponseRow;
-pub use single_response::Unknown;
-pub use stamp_answer::PkiStatusInfo;
-pub use stamp_answer::PkiStatusRow;
-pub use stamp_answer::TimeStampResp;
-pub use stamp_answer::TimeStampRespRow;
-pub use stamp_answer::read_stamp_answer;
-pub use stamp_answer::stamp_answer_vec;
-pub use stamp_request::RequestExtensions;
-pub use stamp_request::TimeStampReq;
-pub use stamp_request::TimeStampReqRow;
-pub use stamp_request::read_stamp_request;
-pub use stamp_request::stamp_request_vec;
-pub use status::BasicOcspResponse;
-pub use status::BasicOcspResponseRow;
-pub use status::OcspResponse;
-pub use status::OcspResponseRow;
-pub use status::ResponderCertificates;
-pub use status::ResponseBytes;
-pub use status::ResponseBytesRow;
-pub use status::TaggedResponseBytes;
-pub use status::basic_response_vec;
-pub use status::ocsp_response_vec;
-pub use status::read_basic_response;
-pub use status::read_ocsp_response;
-pub use time_stamp::MessageImprint;
-pub use time_stamp::MessageImprintRow;
-pub use time_stamp::StampAuthority;
-pub use time_stamp::StampExtensions;
-pub use time_stamp::TstInfo;
-pub use time_stamp::TstInfoRow;
-pub use time_stamp::read_tst_info;
-pub use time_stamp::tst_info_vec;
+pub use certificate::{
+    Certificate, CertificateRow, certificate_vec, read_certificate, read_certificate_whole,
+};
+pub use kept::{kept_certificate, kept_request};
+pub use names::{Attribute, AttributeRow, Name};
+pub use request::{
+    CertificationRequest, CertificationRequestInfo, CertificationRequestInfoRow,
+    CertificationRequestRow, RequestAttributes, read_request, request_vec,
+};
+pub use response_data::{
+    ResponderId, ResponderIdArms, ResponderKey, ResponderName, ResponseData, ResponseDataRow,
+    ResponseExtensions,
+};
+pub use signed::{
+    Extensions, FirstVersion, IssuerUniqueId, SubjectUniqueId, TbsCertificate, TbsCertificateRow,
+    Version,
+};
+pub use signed_data::{
+    EncapsulatedContentInfo, EncapsulatedContentRow, RevocationLists, SignedContent, SignedData,
+    SignedDataRow, SignerCertificates, read_signed_data, signed_data_vec,
+};
+pub use signer::{
+    IssuerAndSerialNumber, IssuerAndSerialRow, SignedAttributes, SignerIdentifier,
+    SignerIdentifierArms, SignerInfo, SignerInfoRow, SubjectKeyIdentifier, UnsignedAttributes,
+};
+pub use single_response::{
+    CertId, CertIdRow, CertStatus, CertStatusArms, Good, NextUpdate, RevocationReason, Revoked,
+    RevokedInfo, RevokedInfoRow, SingleResponse, SingleResponseRow, Unknown,
+};
+pub use status::{
+    BasicOcspResponse, BasicOcspResponseRow, OcspResponse, OcspResponseRow, ResponderCertificates,
+    ResponseBytes, ResponseBytesRow, TaggedResponseBytes, basic_response_vec, ocsp_response_vec,
+    read_basic_response, read_ocsp_response,
+};
 pub use times::year_of;
-pub use verified::SignedCertificate;
-pub use verified::SignedCertificateRow;
-pub use verified::read_signed_certificate;
-pub use verified_content::KeptAttributes;
-pub use verified_content::VerifiableDataRow;
-pub use verified_content::VerifiableSignedData;
-pub use verified_content::VerifiableSignerInfo;
-pub use verified_content::VerifiableSignerRow;
-pub use verified_content::read_verifiable_signed_data;
-pub use verified_request::SignedRequest;
-pub use verified_request::SignedRequestRow;
-pub use verified_request::read_signed_request;
-pub use verified_response::SignedResponse;
-pub use verified_response::SignedResponseRow;
-pub use verified_response::read_signed_response;
+pub use verified::{SignedCertificate, SignedCertificateRow, read_signed_certificate};
+pub use verified_content::{
+    KeptAttributes, VerifiableDataRow, VerifiableSignedData, VerifiableSignerInfo,
+    VerifiableSignerRow, read_verifiable_signed_data,
+};
+pub use verified_request::{SignedRequest, SignedRequestRow, read_signed_request};
+pub use verified_response::{SignedResponse, SignedResponseRow, read_signed_response};
+
+// Time stamps.
+pub use kept_stamps::{kept_stamp_answer, kept_stamp_request, kept_tst_info};
+pub use stamp_answer::{
+    PkiStatusInfo, PkiStatusRow, TimeStampResp, TimeStampRespRow, read_stamp_answer,
+    stamp_answer_vec,
+};
+pub use stamp_request::{
+    RequestExtensions, TimeStampReq, TimeStampReqRow, read_stamp_request, stamp_request_vec,
+};
+pub use time_stamp::{
+    MessageImprint, MessageImprintRow, StampAuthority, StampExtensions, TstInfo, TstInfoRow,
+    read_tst_info, tst_info_vec,
+};
