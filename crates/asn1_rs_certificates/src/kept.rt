@@ -1,6 +1,5 @@
 //! Certificates and requests that are kept: their copies outlive the octets that they were read from.
-ghost use Rattle.std.specs.Prelude.{◌≡◌, IfOk, IfErr};
-ghost use Rattle.asn1_rs.specs.Prelude.{copied_by, OutOfMemory};
+ghost use Rattle.asn1_rs.specs.Prelude.{copied_by};
 
 use crate::{
     Attribute, AttributeRow, Certificate, CertificateRow, CertificationRequest,
@@ -9,7 +8,6 @@ use crate::{
     TbsCertificate, Version,
 };
 use asn1_rs::author::{LawfulStruct, Row10};
-use asn1_rs::laws::Grammar;
 use asn1_rs::{Defaulted, Error, Integer, ToStatic, copy_fields};
 use asn1_rs_messages::{AlgorithmIdentifier, SubjectPublicKeyInfo, Validity};
 use std::alloc::Global;
@@ -110,30 +108,4 @@ impl<'a> ToStatic for CertificationRequest<'a> {
             certification_request_info, signature_algorithm, signature
         })
     }
-}
-
-/// A copy of a certificate, with the same value. It outlives the octets that the certificate was read from. Refused only
-/// when out of memory.
-pub fn kept_certificate(
-    alloc: Global,
-    certificate: &Certificate<'_>,
-) -> Result<Certificate<'static>, Error>
-    ensures copied { IfOk result (λ copy. ⟦<Certificate<'static> as Grammar>⟧.grammar.value copy ≡
-        ⟦<Certificate<'static> as Grammar>⟧.grammar.value certificate.now) }
-    ensures refused { IfErr result (λ e. e ≡ OutOfMemory) }
-{
-    certificate.to_static(alloc)
-}
-
-/// A copy of a request, with the same value. It outlives the octets that the request was read from. Refused only
-/// when out of memory.
-pub fn kept_request(
-    alloc: Global,
-    request: &CertificationRequest<'_>,
-) -> Result<CertificationRequest<'static>, Error>
-    ensures copied { IfOk result (λ copy. ⟦<CertificationRequest<'static> as Grammar>⟧.grammar.value copy ≡
-        ⟦<CertificationRequest<'static> as Grammar>⟧.grammar.value request.now) }
-    ensures refused { IfErr result (λ e. e ≡ OutOfMemory) }
-{
-    request.to_static(alloc)
 }

@@ -1,13 +1,8 @@
-//! Time stamps that are kept, with their requests and answers: copies outlive the octets that they were read from.
-ghost use Rattle.std.specs.Prelude.{◌≡◌, IfOk, IfErr};
-ghost use Rattle.asn1_rs.specs.Prelude.{copied_by, OutOfMemory};
+//! Time stamps that are kept: copies outlive the octets that they were read from.
+ghost use Rattle.asn1_rs.specs.Prelude.{copied_by};
 
-use crate::{
-    MessageImprint, MessageImprintRow, StampAuthority, StampExtensions, TimeStampReq,
-    TimeStampResp, TstInfo,
-};
+use crate::{MessageImprint, MessageImprintRow, StampAuthority, StampExtensions, TstInfo};
 use asn1_rs::author::{LawfulStruct, Row10};
-use asn1_rs::laws::Grammar;
 use asn1_rs::{
     DefaultFalse, Defaulted, Error, GeneralizedTime, Integer, Oid, ToStatic, copy_fields,
 };
@@ -54,37 +49,4 @@ impl<'a> ToStatic for TstInfo<'a> {
             tsa, extensions
         })
     }
-}
-
-/// A copy of what a time stamp says, with the same value. It outlives the octets. Refused only when out of memory.
-pub fn kept_tst_info(alloc: Global, info: &TstInfo<'_>) -> Result<TstInfo<'static>, Error>
-    ensures copied { IfOk result (λ copy. ⟦<TstInfo<'static> as Grammar>⟧.grammar.value copy ≡
-        ⟦<TstInfo<'static> as Grammar>⟧.grammar.value info.now) }
-    ensures refused { IfErr result (λ e. e ≡ OutOfMemory) }
-{
-    info.to_static(alloc)
-}
-
-/// A copy of a request for a time stamp, with the same value. It outlives the octets. Refused only when out of memory.
-pub fn kept_stamp_request(
-    alloc: Global,
-    request: &TimeStampReq<'_>,
-) -> Result<TimeStampReq<'static>, Error>
-    ensures copied { IfOk result (λ copy. ⟦<TimeStampReq<'static> as Grammar>⟧.grammar.value copy ≡
-        ⟦<TimeStampReq<'static> as Grammar>⟧.grammar.value request.now) }
-    ensures refused { IfErr result (λ e. e ≡ OutOfMemory) }
-{
-    request.to_static(alloc)
-}
-
-/// A copy of an answer, with the same value. It outlives the octets. Refused only when out of memory.
-pub fn kept_stamp_answer(
-    alloc: Global,
-    answer: &TimeStampResp<'_>,
-) -> Result<TimeStampResp<'static>, Error>
-    ensures copied { IfOk result (λ copy. ⟦<TimeStampResp<'static> as Grammar>⟧.grammar.value copy ≡
-        ⟦<TimeStampResp<'static> as Grammar>⟧.grammar.value answer.now) }
-    ensures refused { IfErr result (λ e. e ≡ OutOfMemory) }
-{
-    answer.to_static(alloc)
 }

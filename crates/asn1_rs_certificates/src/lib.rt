@@ -30,7 +30,6 @@ mod verified_response;
 pub use certificate::{
     Certificate, CertificateRow, certificate_vec, read_certificate, read_certificate_whole,
 };
-pub use kept::{kept_certificate, kept_request};
 pub use names::{Attribute, AttributeRow, Name};
 pub use request::{
     CertificationRequest, CertificationRequestInfo, CertificationRequestInfoRow,
@@ -71,7 +70,6 @@ pub use verified_request::{SignedRequest, SignedRequestRow, read_signed_request}
 pub use verified_response::{SignedResponse, SignedResponseRow, read_signed_response};
 
 // Time stamps.
-pub use kept_stamps::{kept_stamp_answer, kept_stamp_request, kept_tst_info};
 pub use stamp_answer::{
     PkiStatusInfo, PkiStatusRow, TimeStampResp, TimeStampRespRow, read_stamp_answer,
     stamp_answer_vec,
