@@ -3,7 +3,7 @@ use Rattle.std.proofs.Common.{◌≡◌, ◌∙◌, ap, sym, refl, subst, ℕ, s
 use Rattle.std.proofs.lemmas.List.{map-append, take_more, drop_more}
 use Rattle.std.specs.Borrow.{Bor}
 use Rattle.std.specs.Str.{bytes_eq}
-use Rattle.json.specs.Json.{Json, member, no_members}
+use Rattle.json.specs.Json.{Json}
 use Rattle.json.specs.Find.{get_member, later_or}
 use Rattle.json.specs.Value.{members_of, members_view, value_view}
 use Rattle.json.specs.declared.value.Value.{Value}
@@ -71,8 +71,3 @@ module _ (types : Types) (choice : ℕ) (key : List ℕ) (arms : List ℕ) (i : 
 pub members_counted : {A : Type 0} (ms : List (Bor (List ℕ) × Value A)) → count_members (members_view ms) ≡ length ms
 members_counted [] = refl
 members_counted (m ∷ ms) = ap suc (members_counted ms)
-
--- the members of an object with one
-pub one_counted : {A : Type 0} (ms : List (Bor (List ℕ) × Value A)) (key : List ℕ) (j : Json) →
-    members_view ms ≡ member key j no_members → length ms ≡ 1
-one_counted ms key j e = sym (members_counted ms) ∙ ap count_members e

@@ -38,7 +38,7 @@ tapes_behind (kept_absent a) b = ap (λ (l : List Mark). absent_mark ∷ l) (tap
 tapes_behind (kept_more k a) b =
     ap (λ (l : List Mark). tape_of k ++ l) (tapes_behind a b) ∙ sym (append_assoc (tape_of k) (tapes_of a) (tapes_of b))
 
-pub and_then_assoc : (a b c : Values) → and_then (and_then a b) c ≡ and_then a (and_then b c)
+and_then_assoc : (a b c : Values) → and_then (and_then a b) c ≡ and_then a (and_then b c)
 and_then_assoc none b c = refl
 and_then_assoc (absent a) b c = ap absent (and_then_assoc a b c)
 and_then_assoc (more v a) b c = ap (more v) (and_then_assoc a b c)
@@ -142,7 +142,7 @@ component_first Sub B presence (Some j) (more v vs) ws Rest d r =
     (d.0, subst (λ (z : Values). Rest (and_then z ws)) (sym d.1) r)
 
 module _ (types : Types) (depth : ℕ) (Sub : ℕ → Json → Value → Type 0) (at : ℕ) (unknown : Option ℕ) (ms : Members) (fs : List Field) where
-  pub first_more : (place : ℕ) (f : Field) (vs ws : Values) → drop place fs ≡ f ∷ drop (place + 1) fs →
+  first_more : (place : ℕ) (f : Field) (vs ws : Values) → drop place fs ≡ f ∷ drop (place + 1) fs →
       DenoteFirst types depth Sub at unknown ms fs place vs →
       DenotesOnce types depth Sub f (get_member (name_of_field types (Some at) place) ms) ws →
       DenoteFirst types depth Sub at unknown ms fs (place + 1) (and_then vs ws)

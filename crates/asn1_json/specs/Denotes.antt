@@ -43,7 +43,7 @@ DenotesComponent Sub Left (Some j) (more v vs) Rest = Sub j v × Rest vs
 DenotesComponent Sub Left (Some j) _ Rest = ⊥
 
 -- Members denote the values of the fields from a place on, and of unknown elements behind them. A component that is left
--- out has the value of its default, to a depth of elements. Where two fields have one name, they have one member.
+-- out has the value of its default, to a depth of elements.
 abbrev pub DenoteFields : Types → ℕ → (ℕ → Json → Value → Type 0) → ℕ → Option ℕ → Members → List Field → ℕ → Values → Type 0
 DenoteFields types depth Sub at unknown ms [] place vs =
     DenoteUnknown Sub unknown (get_member (codes "...") ms) vs

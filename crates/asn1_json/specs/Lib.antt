@@ -7,10 +7,9 @@ pub mod Shown
 pub mod Numerals
 pub mod ArcTexts
 pub mod Found
+pub mod Made
 pub mod DenotedLeaves
 pub mod Denotes
-pub mod HaveWords
 pub mod MadeFrom
 pub mod Trees
 pub mod Outcomes
-pub mod OnlyRows

@@ -1,28 +1,31 @@
 -- What comes of JSON that is read.
-use Rattle.std.specs.Prelude.{ℕ, ◌≡◌, List, [], ◌∷◌, drop, Option, Some, None, Result, MatchResult, All}
+use Rattle.std.specs.Prelude.{ℕ, ◌≡◌, List, drop, Option, Some, None, Result, MatchResult, All}
 use Rattle.x690.specs.Identifiers.{Identifier}
 use Rattle.x690.specs.Elements.{IsStrictElement}
 use Rattle.json.specs.Json.{Json, array, Items, Members}
 use Rattle.json.specs.Value.{value_view}
 use Rattle.asn1_schema.specs.declared.schema.Field.{Field}
+use Rattle.asn1_schema.specs.declared.schema.Node.{Node}
 use Rattle.asn1_schema.specs.declared.schema.Kind.{Kind}
 use Rattle.asn1_schema.specs.declared.names.PartName.{PartName}
 use Rattle.asn1_schema.specs.declared.tape.Item.{Item}
 use Rattle.asn1_schema.specs.declared.owned.OwnedTape.{OwnedTape}
 use Rattle.asn1_schema.specs.Owned.{Appends, owned_marks}
-use Rattle.asn1_schema.specs.declared.schema.Node.{Node}
-use Rattle.asn1_schema.specs.Grammar.{Body, LeftOut}
-use Rattle.asn1_schema.specs.Rules.{der}
+use Rattle.asn1_schema.specs.Grammar.{Body, LeftOut, Word}
+use Rattle.asn1_schema.specs.Rules.{der, strict}
 use Rattle.asn1_schema.specs.Tape.{Kept, KeptRow, mark, leaf_mark, tape_of, tapes_of, value_of, values_of}
 use Rattle.asn1_schema.specs.Values.{LeafValue, Value, Values, leaf, row, any, none, absent, more}
 use Rattle.asn1_json.specs.DenotedLeaves.{DenotesLeaf}
-use Rattle.asn1_json.specs.Denotes.{Denotes, DenoteFields, DenoteItems, DenoteSet, DenotesComponent}
-use Rattle.asn1_json.specs.HaveWords.{HasWord}
-use Rattle.asn1_json.specs.Tokens.{Types, given_types}
+use Rattle.asn1_json.specs.Denotes.{DenoteFields, DenoteItems, DenoteSet, DenotesComponent}
+use Rattle.asn1_json.specs.Tokens.{Types}
 use Rattle.asn1_json.specs.declared.reading.arranged.Member.{Member}
 use Rattle.asn1_json.specs.declared.reading.leaf.By.{By}
 use Rattle.asn1_json.specs.declared.reading.trail.Fault.{Fault}
 use Rattle.asn1_json.specs.declared.reading.trail.Fault.TheVariants as faults
+
+-- a value of the type at a place has a strict encoding
+abbrev pub HasWord : List Node → ℕ → ℕ → Value → Type 0
+HasWord table depth of v = (word : List ℕ) × Word strict table depth of word v
 
 -- a value without parts that JSON denotes
 abbrev pub DenotesSimple : List PartName → Kind → Json → Value → Type 0
@@ -59,16 +62,9 @@ abbrev pub ReadsDenoted : {T : Type 0} → (D W : Value → Type 0) → OwnedTap
 ReadsDenoted D W old new result =
     MatchResult result (λ _. Makes (IsOnly D W) old new) (λ fault. fault ≡ faults.Refused → HaveNone D W)
 
--- what JSON denotes by what it is read by, and which of it has a strict encoding
-abbrev pub DenotesBy : By → ℕ → ℕ → Json → Value → Type 0
-DenotesBy by nesting = Denotes (given_types by.types) by.depth nesting
-
-abbrev pub HasWordBy : By → ℕ → Value → Type 0
-HasWordBy by = HasWord by.types.table.now by.depth
-
 -- so of values without parts
 abbrev pub ReadsLeaf : {T : Type 0} → By → ℕ → List PartName → Kind → Json → OwnedTape → OwnedTape → Result T Fault → Type 0
-ReadsLeaf by of labels kind j = ReadsDenoted (DenotesSimple labels kind j) (HasWordBy by of)
+ReadsLeaf by of labels kind j = ReadsDenoted (DenotesSimple labels kind j) (HasWord by.types.table.now by.depth of)
 
 -- a component is left out: it may be, or this is the value of its default
 abbrev pub LeftOutOnce : List Node → ℕ → Field → Values → Type 0
@@ -106,27 +102,8 @@ DenotesSet Sub j v = (js : Items) × (vs : Values) × (j ≡ array js) × (v ≡
 abbrev pub document_of : Member → Json
 document_of m = value_view m.item.now
 
--- and its encoding
-abbrev pub octets_of_member : Member → List ℕ
-octets_of_member m = m.octets
+abbrev pub IsMember : (Json → Value → Type 0) → Member → Type 0
+IsMember Sub m = (kept : Kept) × (owned_marks m.made ≡ tape_of kept) × Sub (document_of m) (value_of kept)
 
--- The document denotes the value of the tape, and no other that has a word; this is the word of that value.
-pub record IsMember (Sub : Json → Value → Type 0) (G : List ℕ → Value → Type 0) (m : Member) : Type 0 where
-  pub kept : Kept
-  pub tape : owned_marks m.made ≡ tape_of kept
-  pub only : IsOnly (Sub (document_of m)) (λ v. (word : List ℕ) × G word v) (value_of kept)
-  pub word : G m.octets (value_of kept)
-
-abbrev pub AreJsonMembers : (Json → Value → Type 0) → (List ℕ → Value → Type 0) → List Member → Type 0
-AreJsonMembers Sub G ms = All (IsMember Sub G) ms
-
--- JSON denotes a value of which this is true
-abbrev pub HasDenoted : (Json → Value → Type 0) → (Value → Type 0) → Json → Type 0
-HasDenoted Sub W j = (v : Value) × Sub j v × W v
-
--- the values of the tapes of members
-abbrev pub HoldValues : List Member → Values → Type 0
-HoldValues [] none = Unit {0}
-HoldValues (m ∷ ms) (more v vs) =
-    ((kept : Kept) × (owned_marks m.made ≡ tape_of kept) × (value_of kept ≡ v)) × HoldValues ms vs
-HoldValues _ _ = ⊥
+abbrev pub AreJsonMembers : (Json → Value → Type 0) → List Member → Type 0
+AreJsonMembers Sub ms = All (IsMember Sub) ms

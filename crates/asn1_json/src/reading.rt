@@ -1,12 +1,12 @@
 //! Values of the types of tables, from JSON.
 ghost use Rattle.std.specs.Prelude.{ℕ, ◌≡◌, ◌≤◌, true, IfOk, IfErr, length};
 ghost use Rattle.json.specs.Value.{value_view};
-ghost use Rattle.json.specs.declared.error.Error.TheVariants.{OutOfMemory as no_memory};
 ghost use Rattle.asn1_schema.specs.Owned.{owned_marks};
 ghost use Rattle.asn1_schema.specs.Sound.{is_sound};
 ghost use Rattle.asn1_schema.specs.Tape.{Kept, tape_of, value_of};
-ghost use Rattle.asn1_json.specs.MadeFrom.{DenotesNone, IsMadeFrom, IsWithin, OrOutOfMemory};
-ghost use Rattle.asn1_json.specs.Outcomes.{DenotesBy, HasWordBy, HaveNone, IsOnly};
+ghost use Rattle.asn1_json.specs.Denotes.{Denotes};
+ghost use Rattle.asn1_json.specs.MadeFrom.{IsMadeFrom, IsWithin};
+ghost use Rattle.asn1_json.specs.Tokens.{given_types};
 ghost use Rattle.asn1_json.specs.declared.reading.FromJsonError.TheVariants as errors;
 
 mod arcs;
@@ -111,14 +111,10 @@ fn text_refused(alloc: Global, of: usize, octet: usize, reason: Reason) -> FromJ
     })
 }
 
-/// The refusal of a text that is no JSON, or for which memory ran out.
-fn no_json(alloc: Global, of: usize, text: &str, error: Error) -> FromJsonError
-    ensures within { IsWithin (length text.now) result }
-    ensures memory { error ≡ no_memory → result ≡ errors.OutOfMemory }
+/// The refusal of a text that is no JSON.
+fn no_json(alloc: Global, of: usize, text: &str) -> FromJsonError
+    ensures { IsWithin (length text.now) result }
 {
-    if let Error::OutOfMemory = error {
-        return FromJsonError::OutOfMemory;
-    }
     match octet_of_fault(alloc, text) {
         Ok(octet) => text_refused(alloc, of, octet, Reason::Json),
         Err(_) => FromJsonError::OutOfMemory,
@@ -151,11 +147,9 @@ fn made_from(
 ) -> Result<OwnedTape, FromJsonError>
     requires sound { is_sound by.types.table.now ≡ true }
     ensures ok { IfOk result (λ made. (kept : Kept) × (owned_marks made ≡ tape_of kept) ×
-        IsOnly (DenotesBy by.entry 129 of (value_view value.now)) (HasWordBy by.entry of)
+        Denotes (given_types by.entry.types) by.entry.depth 129 of (value_view value.now)
         (value_of kept)) }
     ensures refused { IfErr result (IsWithin (length text.now)) }
-    ensures none { IfErr result (λ e. OrOutOfMemory e (HaveNone
-        (DenotesBy by.entry 129 of (value_view value.now)) (HasWordBy by.entry of))) }
 {
     let mut made = OwnedTape::new(by.alloc);
     let mut trail = Trail::new(by.alloc, of);
@@ -180,7 +174,6 @@ fn made_from_text(
     requires { is_sound schema.now.nodes.items ≡ true }
     ensures ok { IfOk result (IsMadeFrom schema.now depth of text.now) }
     ensures refused { IfErr result (IsWithin (length text.now)) }
-    ensures none { IfErr result (λ e. OrOutOfMemory e (DenotesNone schema.now depth of text.now)) }
 {
     let table = schema.nodes.as_slice();
     let names = schema.names.as_slice();
@@ -193,7 +186,8 @@ fn made_from_text(
     let mut scratch = Scratch::new(alloc);
     match Value::parse(alloc, text, &mut scratch) {
         Ok(value) => made_from(by, of, text, &value),
-        Err(error) => Err(no_json(alloc, of, text, error)),
+        Err(Error::OutOfMemory) => Err(FromJsonError::OutOfMemory),
+        Err(_) => Err(no_json(alloc, of, text)),
     }
 }
 
@@ -203,8 +197,7 @@ fn made_from_text(
 /// `of` is the place of the type in the table. Elements of its encoding may nest `depth` deep. The members of an object
 /// may be in any order, and those of a set-of are arranged (X.690 11.6). A component with a default may be left out.
 ///
-/// `Refused` tells the octet of the text and the names that lead to it. It says that the text denotes no value of the
-/// type with a strict encoding. A value that has none may be made, where its elements nest too deep.
+/// `Refused` tells the octet of the text and the names that lead to it.
 pub fn tape_from_json(
     alloc: Global,
     schema: &Schema<'_>,
@@ -215,8 +208,6 @@ pub fn tape_from_json(
     requires { is_sound schema.now.nodes.items ≡ true }
     ensures ok { IfOk result (IsMadeFrom schema.now depth of octets.now) }
     ensures refused { IfErr result (IsWithin (length octets.now)) }
-    ensures none { IfErr result (λ e.
-        OrOutOfMemory e (DenotesNone schema.now depth of octets.now)) }
 {
     match str::from_utf8(octets) {
         Ok(text) => made_from_text(alloc, schema, of, depth, text),

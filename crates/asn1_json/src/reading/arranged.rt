@@ -1,15 +1,11 @@
 //! The members of a set-of, in the order of their encodings (X.690 11.6).
-ghost use Rattle.std.specs.Prelude.{◌≡◌, true, MatchResult, OnOk, map};
+ghost use Rattle.std.specs.Prelude.{ℕ, ◌≡◌, true, OnOk, map};
 ghost use Rattle.std.specs.List.Sorted.{IsPermutation};
-ghost use Rattle.x690.specs.Ascending.{Ascending};
-ghost use Rattle.asn1_schema.specs.Grammar.{Word};
-ghost use Rattle.asn1_schema.specs.Owned.{owned_marks};
-ghost use Rattle.asn1_schema.specs.Rules.{strict};
+ghost use Rattle.json.specs.Value.{items_of};
 ghost use Rattle.asn1_schema.specs.Sound.{is_sound};
-ghost use Rattle.asn1_schema.specs.Tape.{Kept, tape_of, value_of};
-ghost use Rattle.asn1_schema.specs.Values.{Values};
-ghost use Rattle.asn1_json.specs.Outcomes.{HasWordBy, HoldValues, MakesRow, octets_of_member};
-ghost use Rattle.asn1_json.specs.declared.reading.trail.Fault.TheVariants as faults;
+ghost use Rattle.asn1_json.specs.Denotes.{Denotes, DenoteItems};
+ghost use Rattle.asn1_json.specs.Outcomes.{AreJsonMembers, MakesRow, document_of};
+ghost use Rattle.asn1_json.specs.Tokens.{Types as SpecTypes};
 
 use crate::reading::leaf::By;
 use crate::reading::trail::{Fault, Reason, Trail};
@@ -38,9 +34,6 @@ pub(super) fn encoded(
     trail: &mut Trail,
 ) -> Result<DerBuffer, Fault>
     requires { is_sound by.types.table.now ≡ true }
-    ensures { (kept : Kept) → owned_marks made.now ≡ tape_of kept → MatchResult result
-        (λ octets. Word strict by.entry.types.table.now by.entry.depth of octets (value_of kept))
-        (λ fault. fault ≡ faults.Refused → ¬ HasWordBy by.entry of (value_of kept)) }
 {
     let tape = made.lend(by.alloc)?;
     let mut octets = DerBuffer::new(by.alloc);
@@ -53,8 +46,7 @@ pub(super) fn encoded(
 
 /// Puts members into the order of their strict encodings.
 pub(super) fn arrange(members: &mut Vec<Member<'_, '_>>) -> Result<(), AllocError>
-    ensures permutation { IsPermutation members.old.items members.new.items }
-    ensures order { OnOk result (Ascending (map octets_of_member members.new.items)) }
+    ensures { IsPermutation members.old.items members.new.items }
 {
     members.sort_by(|a: &Member<'_, '_>, b: &Member<'_, '_>| a
         .octets
@@ -68,8 +60,10 @@ pub(super) fn put_members(
     members: &[Member<'_, '_>],
     made: &mut OwnedTape,
 ) -> Result<(), AllocError>
-    ensures { (vs : Values) → HoldValues members.now vs →
-        OnOk result (MakesRow (λ ws. ws ≡ vs) made.old made.new) }
+    ensures { (types : SpecTypes) (depth nesting of : ℕ) →
+        AreJsonMembers (Denotes types depth nesting of) members.now → OnOk result (MakesRow
+        (DenoteItems (Denotes types depth nesting of) (items_of (map document_of members.now)))
+        made.old made.new) }
 {
     for member in members {
         let tape = member.made.lend(alloc)?;

@@ -1,6 +1,6 @@
 //! Values without parts, from JSON.
 ghost use Rattle.std.specs.Prelude.{ℤ, Bool, [], ◌≡◌, ◌<◌, ◌++◌, true};
-ghost use Rattle.std.specs.Prelude.{false, Some, IfOk, MatchResult, length};
+ghost use Rattle.std.specs.Prelude.{false, Some, IfOk, MatchResult, OnOk, length};
 ghost use Rattle.x690.specs.Strict.{header_octets};
 ghost use Rattle.std.specs.declared.vec.Vec.{Vec};
 ghost use Rattle.std.specs.declared.alloc.Global.{Global};
@@ -8,11 +8,12 @@ ghost use Rattle.json.specs.Json.{string};
 ghost use Rattle.json.specs.Value.{value_view};
 ghost use Rattle.asn1_schema.specs.declared.schema.Kind.TheVariants as kinds;
 ghost use Rattle.asn1_schema.specs.Sound.{is_sound};
-ghost use Rattle.asn1_schema.specs.Tape.{Kept, leaf_mark, mark, marks, tape_of, value_of};
-ghost use Rattle.asn1_schema.specs.Values.{LeafValue, leaf};
+ghost use Rattle.asn1_schema.specs.Tape.{leaf_mark, mark, marks};
+ghost use Rattle.asn1_schema.specs.Values.{LeafValue, Value as SpecValue, leaf};
 ghost use Rattle.asn1_json.specs.DenotedLeaves.{DenotesIdentifier};
 ghost use Rattle.asn1_json.specs.Found.{FindsOnly};
-ghost use Rattle.asn1_json.specs.Outcomes.{HasWordBy, IsElementFound, ReadsDenoted, ReadsLeaf};
+ghost use Rattle.asn1_json.specs.Made.{tape_of_value};
+ghost use Rattle.asn1_json.specs.Outcomes.{DenotesSimple, HasWord, IsElementFound, Makes, ReadsDenoted, ReadsLeaf};
 ghost use Rattle.asn1_json.specs.Types.{labels_at};
 ghost use Rattle.asn1_json.specs.declared.reading.trail.Fault.TheVariants as faults;
 
@@ -53,9 +54,10 @@ pub(super) fn judge(
     trail: &mut Trail,
 ) -> Result<(), Fault>
     requires { is_sound by.types.table.now ≡ true }
-    ensures { (kept : Kept) → marks tape.now ≡ tape_of kept → MatchResult result
-        (λ _. HasWordBy by.entry of (value_of kept))
-        (λ fault. fault ≡ faults.Refused → ¬ HasWordBy by.entry of (value_of kept)) }
+    ensures { (v : SpecValue) → marks tape.now ≡ tape_of_value v → MatchResult result
+        (λ _. HasWord by.entry.types.table.now by.entry.depth of v)
+        (λ fault. fault ≡ faults.Refused →
+        HasWord by.entry.types.table.now by.entry.depth of v → ⊥) }
 {
     tapes_begin_with_one_value();
     let mut buf = DerBuffer::new(by.alloc);
@@ -76,7 +78,7 @@ fn put(
 ) -> Result<(), Fault>
     requires { is_sound by.types.table.now ≡ true }
     ensures { (l : LeafValue) → mark item.entry ≡ leaf_mark l → ReadsDenoted (λ v. v ≡ leaf l)
-        (HasWordBy by.entry of) made.old made.new result }
+        (HasWord by.entry.types.table.now by.entry.depth of) made.old made.new result }
 {
     match judge(by, of, &[item], trail) {
         Ok(()) => {
@@ -236,8 +238,7 @@ fn read_octets(
 
 /// The contents octets of an identifier: by its arcs, or in hexadecimal where these are too large to be shown.
 fn content_of(alloc: Global, relative: bool, text: &str) -> Result<Option<Vec<u8>>, AllocError>
-    ensures { IfOk result
-        (FindsOnly (λ content. content.items) (DenotesIdentifier relative text.now)) }
+    ensures { IfOk result (FindsOnly (λ content. content.items) (DenotesIdentifier relative text.now)) }
 {
     if has_arcs(relative, text) {
         return identifier_content(alloc, relative, text);
@@ -388,8 +389,8 @@ pub(super) fn read_leaf(
     trail: &mut Trail,
 ) -> Result<(), Fault>
     requires sound { is_sound by.types.table.now ≡ true }
-    ensures { ReadsLeaf by.entry of (labels_at by.entry.types.names.now (Some at)) kind.now
-        (value_view value.now) made.old made.new result }
+    ensures { OnOk result (Makes (DenotesSimple (labels_at by.entry.types.names.now (Some at))
+        kind.now (value_view value.now)) made.old made.new) }
 {
     match kind {
         Kind::Boolean => read_boolean(by, of, value, made, trail),

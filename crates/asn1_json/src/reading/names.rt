@@ -1,14 +1,12 @@
 //! The members of objects, by the names of parts.
-ghost use Rattle.std.specs.Prelude.{ℕ, ◌≡◌, ◌≢◌, List, None, Some, IfOk, MatchOption, MatchResult};
-ghost use Rattle.std.specs.Prelude.{false, true, string_bytes};
+ghost use Rattle.std.specs.Prelude.{◌≡◌, None, Some, IfOk, IfSome, MatchOption, OnOk, true, string_bytes};
 ghost use Rattle.json.specs.Find.{get_member};
-ghost use Rattle.json.specs.Json.{Json, member, no_members};
+ghost use Rattle.json.specs.Json.{member, no_members};
 ghost use Rattle.json.specs.Value.{members_view, value_view};
 ghost use Rattle.asn1_json.specs.Denotes.{AreNamed, IsNameOfField, IsNameOfPart, arm_from};
 ghost use Rattle.asn1_json.specs.Tokens.{name_of_arm, name_of_field, given_types, type_of_unknown};
 ghost use Rattle.asn1_json.specs.Types.{arms_of, kind_at, or_name};
 ghost use Rattle.asn1_words.specs.Words.{number_text};
-ghost use Rattle.asn1_json.specs.declared.reading.trail.Fault.TheVariants as faults;
 
 use crate::leaves::count_text;
 use crate::reading::trail::{Fault, Reason, Step, Trail};
@@ -34,13 +32,11 @@ pub(super) fn member_named<'m, 'a>(
 }
 
 /// The one member of an object, by its name.
-#[tactic(auto, using(crate::proofs::Members::one_counted))]
 pub(super) fn only_member<'m, 'a>(
     members: &'m [(&'a str, Value<'a>)],
 ) -> Option<(&'a str, &'m Value<'a>)>
-    ensures { MatchOption result ((key : List ℕ) (j : Json) →
-        members_view members.now ≢ member key j no_members)
-        (λ one. members_view members.now ≡ member one.0.now (value_view one.1.now) no_members) }
+    ensures { IfSome result (λ one.
+        members_view members.now ≡ member one.0.now (value_view one.1.now) no_members) }
 {
     match members {
         [one] => Some((one.0, &one.1)),
@@ -96,8 +92,9 @@ pub(super) fn arm_named(
     choice: usize,
     name: &str,
 ) -> Result<Option<usize>, AllocError>
-    ensures { IfOk result (λ found. found ≡ arm_from (given_types types.entry) choice name.now
-        (arms_of (kind_at types.entry.table.now (Some choice))) 0) }
+    ensures { IfOk result (λ found. IfSome found
+        (λ arm. arm_from (given_types types.entry) choice name.now
+        (arms_of (kind_at types.entry.table.now (Some choice))) 0 ≡ Some arm)) }
 {
     for arm in 0..types.arms(Some(choice)).len() {
         let own = arm_name(alloc, types, choice, arm)?;
@@ -133,10 +130,7 @@ fn has_field_named(
     row: usize,
     name: &str,
 ) -> Result<bool, AllocError>
-    ensures is { IfOk result (λ is. is ≡ true →
-        IsNameOfField (given_types types.entry) row name.now) }
-    ensures other { IfOk result (λ is. is ≡ false →
-        ¬ IsNameOfField (given_types types.entry) row name.now) }
+    ensures { IfOk result (λ is. is ≡ true → IsNameOfField (given_types types.entry) row name.now) }
 {
     for place in 0..types.fields(Some(row)).len() {
         let own = field_name(alloc, types, row, place)?;
@@ -154,11 +148,8 @@ fn is_name_of_part(
     row: usize,
     name: &str,
 ) -> Result<bool, AllocError>
-    ensures is { IfOk result (λ is. is ≡ true →
+    ensures { IfOk result (λ is. is ≡ true →
         IsNameOfPart (given_types types.entry) row
-        (type_of_unknown (given_types types.entry) (Some row)) name.now) }
-    ensures other { IfOk result (λ is. is ≡ false →
-        ¬ IsNameOfPart (given_types types.entry) row
         (type_of_unknown (given_types types.entry) (Some row)) name.now) }
 {
     if let Some(_of) = types.of_unknown(Some(row)) {
@@ -178,10 +169,7 @@ pub(super) fn judge_names<'a>(
     members: &[(&'a str, Value<'a>)],
     trail: &mut Trail,
 ) -> Result<(), Fault>
-    ensures { MatchResult result
-        (λ _. AreNamed (given_types types.entry) row
-        (type_of_unknown (given_types types.entry) (Some row)) (members_view members.now))
-        (λ fault. fault ≡ faults.Refused → ¬ AreNamed (given_types types.entry) row
+    ensures { OnOk result (AreNamed (given_types types.entry) row
         (type_of_unknown (given_types types.entry) (Some row)) (members_view members.now)) }
 {
     let mut rest = members;

@@ -1,24 +1,15 @@
 //! Values with parts, from JSON.
-ghost use Rattle.std.specs.Prelude.{ℕ, ◌∷◌, [], ◌≡◌, ◌≢◌, true, All, IfErr, IfOk, None, Option, Some};
-ghost use Rattle.std.specs.Prelude.{codes, drop, length, map};
+ghost use Rattle.std.specs.Prelude.{ℕ, ◌≡◌, true, IfOk, OnOk, Option, Some, codes, length, map};
 ghost use Rattle.json.specs.Find.{get_member};
 ghost use Rattle.json.specs.Value.{members_view, value_view};
 ghost use Rattle.asn1_schema.specs.Grammar.{Word};
-ghost use Rattle.asn1_schema.specs.Owned.{owned_marks};
-ghost use Rattle.asn1_schema.specs.Rules.{der, strict};
+ghost use Rattle.asn1_schema.specs.Rules.{der};
 ghost use Rattle.asn1_schema.specs.Sound.{is_sound};
-ghost use Rattle.asn1_schema.specs.Tape.{Kept, tape_of, value_of};
-ghost use Rattle.asn1_schema.specs.declared.decode.DecodeError.TheVariants as errors;
-ghost use Rattle.asn1_json.specs.Denotes.{DenotesChosen, DenotesKind, DenotesRow, DenoteUnknown};
-ghost use Rattle.asn1_json.specs.HaveWords.{ArmHas, EachHas, FieldsHave, HaveAscending, RowHas};
-ghost use Rattle.asn1_json.specs.HaveWords.{UnknownHave};
-ghost use Rattle.asn1_json.specs.OnlyRows.{ReadsDenotedRow, ReadsFields};
-ghost use Rattle.asn1_json.specs.Outcomes.{AreJsonMembers, DenotesBy, DenotesItems, DenotesList};
-ghost use Rattle.asn1_json.specs.Outcomes.{DenotesOnce, DenotesSet, HasDenoted, HasWordBy};
-ghost use Rattle.asn1_json.specs.Outcomes.{LeftOutOnce, ReadsDenoted, document_of};
+ghost use Rattle.asn1_json.specs.Denotes.{Denotes, DenotesChosen, DenotesKind, DenotesRow, DenoteUnknown};
+ghost use Rattle.asn1_json.specs.Outcomes.{AreJsonMembers, DenoteFirst, DenotesItems, DenotesList, DenotesOnce};
+ghost use Rattle.asn1_json.specs.Outcomes.{DenotesSet, LeftOutOnce, Makes, MakesRow, document_of};
 ghost use Rattle.asn1_json.specs.Tokens.{name_of_field, given_types, type_of_unknown};
-ghost use Rattle.asn1_json.specs.Types.{arms_of, fields_of, kind_at, resolved};
-ghost use Rattle.asn1_json.specs.declared.reading.trail.Fault.TheVariants as faults;
+ghost use Rattle.asn1_json.specs.Types.{arms_of, fields_of, kind_at};
 
 use crate::reading::arranged::{Member, arrange, encoded, put_members};
 use crate::reading::leaf::{By, judge, read_leaf};
@@ -31,16 +22,6 @@ use asn1_schema::schema::{Field, Kind, Presence};
 use asn1_schema::tape::Item;
 use json::Value;
 
-/// The refusal of a default whose octets are no encoding of a value.
-fn default_refused(of: usize, error: DecodeError, trail: &mut Trail) -> Fault
-    ensures { result ≡ faults.Refused → error ≢ errors.OutOfMemory }
-{
-    match error {
-        DecodeError::OutOfMemory => Fault::Memory,
-        _ => trail.refused(of, Reason::Default),
-    }
-}
-
 /// Puts a default on the tape: the value of which these octets are an encoding.
 fn put_default(
     by: By<'_, '_>,
@@ -50,8 +31,8 @@ fn put_default(
     trail: &mut Trail,
 ) -> Result<(), Fault>
     requires sound { is_sound by.types.table.now ≡ true }
-    ensures { ReadsDenoted (Word der by.entry.types.table.now by.entry.depth of octets.now)
-        (λ v. Unit {0}) made.old made.new result }
+    ensures { OnOk result (Makes (Word der by.entry.types.table.now by.entry.depth of octets.now)
+        made.old made.new) }
 {
     let mut tape = Vec::new(by.alloc);
     let mut refusal = Refusal::none();
@@ -67,7 +48,8 @@ fn put_default(
             made.append(&tape)?;
             Ok(())
         }
-        Err(error) => Err(default_refused(of, error, trail)),
+        Err(DecodeError::OutOfMemory) => Err(Fault::Memory),
+        Err(_) => Err(trail.refused(of, Reason::Default)),
     }
 }
 
@@ -81,8 +63,8 @@ fn leave_out(
     trail: &mut Trail,
 ) -> Result<(), Fault>
     requires sound { is_sound by.types.table.now ≡ true }
-    ensures { ReadsDenotedRow (LeftOutOnce by.entry.types.table.now by.entry.depth field.now)
-        (λ vs. Unit {0}) made.old made.new result }
+    ensures { OnOk result (MakesRow (LeftOutOnce by.entry.types.table.now by.entry.depth field.now)
+        made.old made.new) }
 {
     match &field.presence {
         Presence::Required => Err(trail.lacks(field.of, row, place)),
@@ -107,11 +89,11 @@ fn read_field<'a>(
     trail: &mut Trail,
 ) -> Result<(), Fault>
     requires sound { is_sound by.types.table.now ≡ true }
-    ensures { ReadsDenotedRow (DenotesOnce (given_types by.entry.types) by.entry.depth
-        (DenotesBy by.entry depth) field.now
+    ensures { OnOk result (MakesRow (DenotesOnce (given_types by.entry.types) by.entry.depth
+        (Denotes (given_types by.entry.types) by.entry.depth depth) field.now
         (get_member (name_of_field (given_types by.entry.types) (Some row) place)
         (members_view members.now)))
-        (FieldsHave (HasWordBy by.entry) None (field.now ∷ [])) made.old made.new result }
+        made.old made.new) }
 {
     match member_of_field(by.alloc, by.types, row, place, members)? {
         None => leave_out(by, row, place, field, made, trail),
@@ -135,11 +117,10 @@ fn read_fields<'a>(
     trail: &mut Trail,
 ) -> Result<(), Fault>
     requires sound { is_sound by.types.table.now ≡ true }
-    ensures { (unknown : Option ℕ) → ReadsFields (given_types by.entry.types) by.entry.depth
-        (DenotesBy by.entry depth) (HasWordBy by.entry) row unknown (members_view members.now)
-        (fields_of (kind_at by.entry.types.table.now (Some row)))
-        (length (fields_of (kind_at by.entry.types.table.now (Some row)))) made.old made.new
-        result }
+    ensures { (unknown : Option ℕ) → OnOk result (MakesRow (DenoteFirst (given_types by.entry.types)
+        by.entry.depth (Denotes (given_types by.entry.types) by.entry.depth depth) row unknown
+        (members_view members.now) (fields_of (kind_at by.entry.types.table.now (Some row)))
+        (length (fields_of (kind_at by.entry.types.table.now (Some row))))) made.old made.new) }
 {
     let fields = by.types.fields(Some(row));
     for (place, field) in fields.iter().enumerate() {
@@ -160,8 +141,9 @@ fn read_array(
     trail: &mut Trail,
 ) -> Result<(), Fault>
     requires sound { is_sound by.types.table.now ≡ true }
-    ensures { ReadsDenotedRow (DenotesItems (DenotesBy by.entry depth inner) (value_view value.now))
-        (EachHas (HasWordBy by.entry inner)) made.old made.new result }
+    ensures { OnOk result (MakesRow (DenotesItems
+        (Denotes (given_types by.entry.types) by.entry.depth depth inner) (value_view value.now))
+        made.old made.new) }
 {
     let Value::Array(items) = value else {
         return Err(trail.refused(of, Reason::Array));
@@ -186,11 +168,10 @@ fn read_unknown<'a>(
     trail: &mut Trail,
 ) -> Result<(), Fault>
     requires sound { is_sound by.types.table.now ≡ true }
-    ensures { ReadsDenotedRow (DenoteUnknown (DenotesBy by.entry depth)
+    ensures { OnOk result (MakesRow (DenoteUnknown
+        (Denotes (given_types by.entry.types) by.entry.depth depth)
         (type_of_unknown (given_types by.entry.types) (Some row))
-        (get_member (codes "...") (members_view members.now)))
-        (UnknownHave (HasWordBy by.entry) (type_of_unknown (given_types by.entry.types) (Some row)))
-        made.old made.new result }
+        (get_member (codes "...") (members_view members.now))) made.old made.new) }
 {
     let Some(of) = by.types.of_unknown(Some(row)) else {
         return Ok(());
@@ -216,12 +197,11 @@ fn read_row(
     trail: &mut Trail,
 ) -> Result<(), Fault>
     requires sound { is_sound by.types.table.now ≡ true }
-    ensures { ReadsDenoted (DenotesRow (given_types by.entry.types) by.entry.depth
-        (DenotesBy by.entry depth) row (fields_of (kind_at by.entry.types.table.now (Some row)))
+    ensures { OnOk result (Makes (DenotesRow (given_types by.entry.types) by.entry.depth
+        (Denotes (given_types by.entry.types) by.entry.depth depth) row
+        (fields_of (kind_at by.entry.types.table.now (Some row)))
         (type_of_unknown (given_types by.entry.types) (Some row)) (value_view value.now))
-        (RowHas (FieldsHave (HasWordBy by.entry)
-        (type_of_unknown (given_types by.entry.types) (Some row))
-        (fields_of (kind_at by.entry.types.table.now (Some row))))) made.old made.new result }
+        made.old made.new) }
 {
     let Value::Object(members) = value else {
         return Err(trail.refused(of, Reason::Object));
@@ -247,8 +227,9 @@ fn read_list(
     trail: &mut Trail,
 ) -> Result<(), Fault>
     requires sound { is_sound by.types.table.now ≡ true }
-    ensures { ReadsDenoted (DenotesList (DenotesBy by.entry depth inner) (value_view value.now))
-        (RowHas (EachHas (HasWordBy by.entry inner))) made.old made.new result }
+    ensures { OnOk result (Makes (DenotesList
+        (Denotes (given_types by.entry.types) by.entry.depth depth inner) (value_view value.now))
+        made.old made.new) }
 {
     let mut items = OwnedTape::new(by.alloc);
     read_array(by, depth, of, inner, value, &mut items, trail)?;
@@ -268,11 +249,8 @@ fn read_members<'v, 'a>(
     requires sound { is_sound by.types.table.now ≡ true }
     ensures all { IfOk result (λ members.
         map document_of members.items ≡ map value_view items.now) }
-    ensures each { IfOk result (λ members. AreJsonMembers (DenotesBy by.entry depth of)
-        (Word strict by.entry.types.table.now by.entry.depth of) members.items) }
-    ensures refused { IfErr result (λ fault. fault ≡ faults.Refused → ¬ All
-        (HasDenoted (DenotesBy by.entry depth of) (HasWordBy by.entry of))
-        (map value_view items.now)) }
+    ensures each { IfOk result (λ members. AreJsonMembers
+        (Denotes (given_types by.entry.types) by.entry.depth depth of) members.items) }
 {
     let mut members = Vec::new(by.alloc);
     for (place, item) in items.iter().enumerate() {
@@ -298,9 +276,9 @@ fn read_set(
     trail: &mut Trail,
 ) -> Result<(), Fault>
     requires sound { is_sound by.types.table.now ≡ true }
-    ensures { ReadsDenoted (DenotesSet (DenotesBy by.entry depth inner) (value_view value.now))
-        (RowHas (HaveAscending (Word strict by.entry.types.table.now by.entry.depth inner)))
-        made.old made.new result }
+    ensures { OnOk result (Makes (DenotesSet
+        (Denotes (given_types by.entry.types) by.entry.depth depth inner) (value_view value.now))
+        made.old made.new) }
 {
     let Value::Array(items) = value else {
         return Err(trail.refused(of, Reason::Array));
@@ -326,10 +304,10 @@ fn read_choice(
     trail: &mut Trail,
 ) -> Result<(), Fault>
     requires sound { is_sound by.types.table.now ≡ true }
-    ensures { ReadsDenoted (DenotesChosen (given_types by.entry.types) (DenotesBy by.entry depth)
-        choice (arms_of (kind_at by.entry.types.table.now (Some choice))) (value_view value.now))
-        (ArmHas (HasWordBy by.entry) (arms_of (kind_at by.entry.types.table.now (Some choice))))
-        made.old made.new result }
+    ensures { OnOk result (Makes (DenotesChosen (given_types by.entry.types)
+        (Denotes (given_types by.entry.types) by.entry.depth depth) choice
+        (arms_of (kind_at by.entry.types.table.now (Some choice))) (value_view value.now))
+        made.old made.new) }
 {
     let Value::Object(members) = value else {
         return Err(trail.refused(of, Reason::OneMember));
@@ -365,11 +343,11 @@ fn read_kind(
     trail: &mut Trail,
 ) -> Result<(), Fault>
     requires sound { is_sound by.types.table.now ≡ true }
-    requires at { resolved by.types.table.now (Some of) ≡ Some at }
     requires kind { kind_at by.types.table.now (Some at) ≡ Some kind.now }
-    ensures { ReadsDenoted (DenotesKind (given_types by.entry.types) by.entry.depth
-        (DenotesBy by.entry depth) at (Some kind.now) (value_view value.now))
-        (HasWordBy by.entry of) made.old made.new result }
+    ensures { OnOk result (Makes (DenotesKind (given_types by.entry.types) by.entry.depth
+        (Denotes (given_types by.entry.types) by.entry.depth depth) at (Some kind.now)
+        (value_view value.now))
+        made.old made.new) }
 {
     match kind {
         Kind::Sequence(_, _) => read_row(by, depth, of, at, value, made, trail),
@@ -406,8 +384,6 @@ fn judge_whole(
     trail: &mut Trail,
 ) -> Result<(), Fault>
     requires { is_sound by.types.table.now ≡ true }
-    ensures { (kept : Kept) → drop start (owned_marks made.now) ≡ tape_of kept → IfErr result
-        (λ fault. fault ≡ faults.Refused → ¬ HasWordBy by.entry of (value_of kept)) }
 {
     if !is_judged_whole(of, at, kind) {
         return Ok(());
@@ -428,8 +404,8 @@ pub(super) fn read_value(
     trail: &mut Trail,
 ) -> Result<(), Fault>
     requires { is_sound by.types.table.now ≡ true }
-    ensures { ReadsDenoted (DenotesBy by.entry depth of (value_view value.now))
-        (HasWordBy by.entry of) made.old made.new result }
+    ensures { OnOk result (Makes (Denotes (given_types by.entry.types) by.entry.depth depth of
+        (value_view value.now)) made.old made.new) }
 {
     if depth == 0 {
         return Err(trail.refused(of, Reason::Json));

@@ -7,6 +7,3 @@ returns-in-Ok-clause-ok c = (
   appended_to_none c.new-made.result c.read_value.new.made _ c.new-made.ensures c.in-Ok.ensures.put,
   c.in-Ok.ensures.denotes,
 )
-
-pub returns-clause-none : goal.returns-clause-none
-returns-clause-none c = c.in-Err-Refused.ensures c.in-Err-Refused.field-0-is

@@ -1,7 +1,6 @@
 use Rattle.std.proofs.Common.{List, ℕ, length, subst}
 use Rattle.std.specs.Prelude.{IfOk, IfErr}
-use Rattle.asn1_json.specs.MadeFrom.{DenotesNone, IsMadeFrom, IsWithin, OrOutOfMemory}
-use Rattle.asn1_json.proofs.FromText.{or_memory}
+use Rattle.asn1_json.specs.MadeFrom.{IsMadeFrom, IsWithin}
 use Rattle.asn1_json.proofs.reading.tape_from_json.Goals as goal
 
 pub returns-in-Ok-clause-ok : goal.returns-in-Ok-clause-ok
@@ -11,11 +10,3 @@ returns-in-Ok-clause-ok c =
 pub returns-in-Ok-clause-refused : goal.returns-in-Ok-clause-refused
 returns-in-Ok-clause-refused c =
     subst (λ (o : List ℕ). IfErr c.made_from_text.result (IsWithin (length o))) c.in-Ok.ensures.cases.0 c.made_from_text.ensures.refused
-
-pub returns-in-Ok-clause-none : goal.returns-in-Ok-clause-none
-returns-in-Ok-clause-none c =
-    subst (λ (o : List ℕ). IfErr c.made_from_text.result (λ e. OrOutOfMemory e (DenotesNone c.args.schema.now c.args.depth c.args.of o)))
-    c.in-Ok.ensures.cases.0 c.made_from_text.ensures.none
-
-pub returns-clause-none : goal.returns-clause-none
-returns-clause-none c = or_memory c.text_refused.result _ (λ json v utf8 is d h. c.in-Err.ensures.cases.0 utf8)

@@ -1,7 +1,7 @@
-use Rattle.std.proofs.Common.{ap, refl, subst, [], ◌∷◌}
+use Rattle.std.proofs.Common.{◌∙◌, ap, sym, refl, subst, [], ◌∷◌}
 use Rattle.asn1_schema.specs.Owned.{Appends}
 use Rattle.asn1_schema.specs.Tape.{Mark, kept_leaf}
-use Rattle.asn1_json.specs.Outcomes.{HasWordBy}
+use Rattle.asn1_json.specs.Made.{tape_of_value}
 use Rattle.asn1_json.proofs.reading.leaf.put.Goals as goal
 
 pub returns-in_ok-push-in-Ok : goal.returns-in_ok-push-in-Ok
@@ -13,4 +13,4 @@ returns-in_ok-push-in-Ok c = λ l is. record {
 
 pub returns-in-Err : goal.returns-in-Err
 returns-in-Err c = λ l is refused v same has.
-    c.in-Err.ensures (kept_leaf l) (ap (λ (m : Mark). m ∷ []) is) refused (subst (HasWordBy c.args.by c.args.of) same has)
+    c.in-Err.ensures v (ap (λ (m : Mark). m ∷ []) is ∙ ap tape_of_value (sym same)) refused has
