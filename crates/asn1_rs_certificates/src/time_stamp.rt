@@ -10,7 +10,7 @@ use asn1_rs::author::{
 };
 use asn1_rs::laws::Grammar;
 use asn1_rs::{
-    Any, DefaultFalse, Defaulted, DerParser, Error, GeneralizedTime, Integer, OctetString, Oid,
+    DefaultFalse, Defaulted, DerParser, Error, GeneralizedTime, Integer, KeptAny, OctetString, Oid,
     ParseResult, SerializeResult, TaggedExplicit, TaggedImplicit, ToDer, assert_fields_valid,
     put_fields, read_der, read_fields, strict_vec,
 };
@@ -92,7 +92,7 @@ pub struct TstInfo<'a> {
 }
 
 /// The name of who gave the time stamp, under its tag. The name is kept as the element that it is.
-pub type StampAuthority<'a> = TaggedExplicit<Any<'a>, Error, 0>;
+pub type StampAuthority<'a> = TaggedExplicit<KeptAny<'a>, Error, 0>;
 
 /// Extensions, under their tag.
 pub type StampExtensions<'a> = TaggedImplicit<Vec<Extension<'a>>, Error, 1>;
