@@ -32,7 +32,7 @@ use Rattle.asn1_rs.specs.Grammar.{DerWord, NoCheck}
 use Rattle.asn1_rs.specs.Grammar.Form.{IsStrict, UniversalForm}
 use Rattle.asn1_rs.specs.Grammar.Item.{ItemGrammar, ber_words}
 use Rattle.asn1_rs.specs.Lists.{IsConstructed, IsListOr}
-use Rattle.asn1_rs.specs.Optional.{IsAtEnd, IsLeftOut, InSome}
+use Rattle.asn1_rs.specs.Optional.{IsAtEnd, InSome}
 use Rattle.asn1_rs.specs.ToDer.{Writing}
 
 -- The rules by which a field is read.
@@ -57,70 +57,107 @@ abbrev pub IsTruncatedBy : EncodingRules → List ℕ → Type 0
 IsTruncatedBy by_der = IsTruncatedIdentifier
 IsTruncatedBy by_ber = EndsWithin
 
--- The tag numbers that octets may begin with.
+-- The tags that octets may begin with.
 
--- any number, or one of these
-pub data Numbers : Type 0 where
-  any_number : Numbers
-  among : List ℕ → Numbers
+-- one class, or any
+pub data TagClass : Type 0 where
+  any_class : TagClass
+  one_class : ℕ → TagClass
+
+-- any tag, or one of these, each of a class and a tag number
+pub data FieldTags : Type 0 where
+  any_tag : FieldTags
+  among : List (TagClass × ℕ) → FieldTags
 
 -- the number is one of these
 abbrev pub is_one_of : ℕ → List ℕ → Bool
 is_one_of number [] = false
 is_one_of number (other ∷ others) = nat_eq other number || is_one_of number others
 
--- no number is among both; no number at all is where nothing can follow
-abbrev pub have_none_in_common : List ℕ → List ℕ → Bool
-have_none_in_common [] others = true
-have_none_in_common (number ∷ numbers) others = not (is_one_of number others) && have_none_in_common numbers others
+-- the class is this one, where it is not any
+abbrev pub is_in_class : ℕ → TagClass → Bool
+is_in_class class any_class = true
+is_in_class class (one_class own) = nat_eq own class
 
-abbrev pub numbers_disjoint : Numbers → Numbers → Bool
-numbers_disjoint any_number (among []) = true
-numbers_disjoint any_number behind = false
-numbers_disjoint (among numbers) any_number = false
-numbers_disjoint (among numbers) (among others) = have_none_in_common numbers others
+-- the class and the tag number are those of one of these tags
+abbrev pub is_a_tag : ℕ → ℕ → List (TagClass × ℕ) → Bool
+is_a_tag class number [] = false
+is_a_tag class number (tag ∷ tags) = (is_in_class class tag.0 && nat_eq tag.1 number) || is_a_tag class number tags
+
+-- these tag numbers in any class
+abbrev pub in_any_class : List ℕ → List (TagClass × ℕ)
+in_any_class [] = []
+in_any_class (number ∷ numbers) = (any_class, number) ∷ in_any_class numbers
+
+-- two classes meet where they are the same, or one is any
+abbrev pub classes_meet : TagClass → TagClass → Bool
+classes_meet any_class other = true
+classes_meet (one_class own) other = is_in_class own other
+
+-- the tag meets one of these: in its number, and in its class
+abbrev pub meets_one_of : TagClass → ℕ → List (TagClass × ℕ) → Bool
+meets_one_of class number [] = false
+meets_one_of class number (tag ∷ tags) =
+    (classes_meet class tag.0 && nat_eq tag.1 number) || meets_one_of class number tags
+
+-- no tag of these meets one of those
+abbrev pub have_none_in_common : List (TagClass × ℕ) → List (TagClass × ℕ) → Bool
+have_none_in_common [] others = true
+have_none_in_common (tag ∷ tags) others = not (meets_one_of tag.0 tag.1 others) && have_none_in_common tags others
+
+-- no tag is among both; no tag at all is where nothing can follow
+abbrev pub disjoint_tags : FieldTags → FieldTags → Bool
+disjoint_tags any_tag (among []) = true
+disjoint_tags any_tag behind = false
+disjoint_tags (among tags) any_tag = false
+disjoint_tags (among tags) (among others) = have_none_in_common tags others
 
 -- those of both
-abbrev pub or_those : Numbers → Numbers → Numbers
-or_those any_number behind = any_number
-or_those (among numbers) any_number = any_number
-or_those (among numbers) (among others) = among (numbers ++ others)
+abbrev pub or_those : FieldTags → FieldTags → FieldTags
+or_those any_tag behind = any_tag
+or_those (among tags) any_tag = any_tag
+or_those (among tags) (among others) = among (tags ++ others)
 
--- a header of this tag number begins the octets
-pub record BeginsWithNumber (rule : Rule) (number : ℕ) (octets : List ℕ) : Type 0 where
+-- a header of this class and tag number begins the octets
+pub record BeginsWithTag (rule : Rule) (class number : ℕ) (octets : List ℕ) : Type 0 where
   pub header : List ℕ
   pub rest : List ℕ
   pub id : Identifier
   pub form : LengthForm
   pub header_is : IsHeader rule header id form
   pub is : octets ≡ header ++ rest
+  pub class_is : id.class ≡ class
   pub number_is : id.number ≡ number
 
--- a header of one of these numbers does
-abbrev pub BeginsWithOneOf : Rule → Numbers → List ℕ → Type 0
-BeginsWithOneOf rule any_number octets = Unit {0}
-BeginsWithOneOf rule (among numbers) octets =
-    (number : ℕ) × BeginsWithNumber rule number octets × (is_one_of number numbers ≡ true)
+-- a header of one of these tags does
+abbrev pub BeginsWithOneOf : Rule → FieldTags → List ℕ → Type 0
+BeginsWithOneOf rule any_tag octets = Unit {0}
+BeginsWithOneOf rule (among tags) octets =
+    (class : ℕ) × (number : ℕ) × BeginsWithTag rule class number octets × (is_a_tag class number tags ≡ true)
 
 -- or there are no octets
-abbrev pub BeginsAmong : Rule → Numbers → List ℕ → Type 0
-BeginsAmong rule numbers octets = (octets ≡ []) ⊎ BeginsWithOneOf rule numbers octets
+abbrev pub BeginsAmong : Rule → FieldTags → List ℕ → Type 0
+BeginsAmong rule tags octets = (octets ≡ []) ⊎ BeginsWithOneOf rule tags octets
 
--- There are no octets, or a header of another number begins them.
-abbrev pub BeginsApart : Rule → Numbers → List ℕ → Type 0
-BeginsApart rule any_number octets = octets ≡ []
-BeginsApart rule (among numbers) octets =
-    (octets ≡ []) ⊎ ((number : ℕ) × BeginsWithNumber rule number octets × (is_one_of number numbers ≡ false))
+-- There are no octets, or a header of another tag begins them: of another tag number, or of another class.
+abbrev pub BeginsApart : Rule → FieldTags → List ℕ → Type 0
+BeginsApart rule any_tag octets = octets ≡ []
+BeginsApart rule (among tags) octets = (octets ≡ []) ⊎
+    ((class : ℕ) × (number : ℕ) × BeginsWithTag rule class number octets × (is_a_tag class number tags ≡ false))
 
 -- strict parts have one of these tag numbers
 abbrev pub FormNumbers : {V : Type 0} → (V → Identifier → List ℕ → Type 0) → List ℕ → Type 0
 FormNumbers {V} Form numbers = (v : V) (i : Identifier) (c : List ℕ) → Form v i c → is_one_of i.number numbers ≡ true
 
+-- strict parts have one of these tags
+abbrev pub FormTags : {V : Type 0} → (V → Identifier → List ℕ → Type 0) → List (TagClass × ℕ) → Type 0
+FormTags {V} Form tags = (v : V) (i : Identifier) (c : List ℕ) → Form v i c → is_a_tag i.class i.number tags ≡ true
+
 -- One field.
 
 -- The values of a field, and which are the type's and in DER form. Which octets it is read from by each of the rules,
--- with its value and what it leaves. The strict octets of a value. The tag numbers of these, and whether they may be
--- none. Whether reading may allocate.
+-- with its value and what it leaves. The strict octets of a value. The tags of these, and whether they may be none.
+-- Whether reading may allocate.
 pub record FieldGrammar (S : Type 0) : Type 1 where
   pub Value : Type 0
   pub value : S → Value
@@ -128,20 +165,20 @@ pub record FieldGrammar (S : Type 0) : Type 1 where
   pub IsDer : Value → Type 0
   pub Takes : EncodingRules → List ℕ → Value → List ℕ → Type 0
   pub Strict : Value → List ℕ → Type 0
-  pub numbers : Numbers
+  pub tags : FieldTags
   pub optional : Bool
   pub allocates : Bool
 
 -- a field that is there: a word of its type begins the octets
-abbrev pub item_field : {S : Type 0} → Numbers → ItemGrammar S → FieldGrammar S
-item_field numbers G = record {
+abbrev pub item_field : {S : Type 0} → FieldTags → ItemGrammar S → FieldGrammar S
+item_field tags G = record {
   Value = G.Value;
   value = G.value;
   IsValue = G.IsValue;
   IsDer = G.IsDer;
   Takes = λ rules. HasPrefix (words_by rules G);
   Strict = IsStrict G.Form;
-  numbers = numbers;
+  tags = tags;
   optional = false;
   allocates = G.allocates;
 }
@@ -157,29 +194,25 @@ OptionStrict Form None octets = octets ≡ []
 OptionStrict Form (Some v) octets = IsStrict Form v octets
 
 -- A field that may be left out, where the octets say so.
-abbrev pub optional_field : {S : Type 0} → Numbers → (EncodingRules → List ℕ → Type 0) → ItemGrammar S →
+abbrev pub optional_field : {S : Type 0} → FieldTags → (EncodingRules → List ℕ → Type 0) → ItemGrammar S →
     FieldGrammar (Option S)
-optional_field numbers LeftOut G = record {
+optional_field tags LeftOut G = record {
   Value = Option G.Value;
   value = option_map G.value;
   IsValue = InSome G.IsValue;
   IsDer = InSome G.IsDer;
   Takes = λ rules. OptionTakes (LeftOut rules) (words_by rules G);
   Strict = OptionStrict G.Form;
-  numbers = numbers;
+  tags = tags;
   optional = true;
   allocates = G.allocates;
 }
 
--- of a type with these tag numbers: at the end, and before a header of another number
-abbrev pub left_out_among : List ℕ → EncodingRules → List ℕ → Type 0
-left_out_among numbers rules = BeginsApart (header_rule rules) (among numbers)
+-- of a type with these tags: at the end, and before a header of another tag
+abbrev pub left_out_among : List (TagClass × ℕ) → EncodingRules → List ℕ → Type 0
+left_out_among tags rules = BeginsApart (header_rule rules) (among tags)
 
--- the same of one tag number
-abbrev pub left_out_by : ℕ → EncodingRules → List ℕ → Type 0
-left_out_by number rules = IsLeftOut (header_rule rules) number
-
--- of one that looks at no tag number: at the end
+-- of one that looks at no tag: at the end
 abbrev pub left_out_at_end : EncodingRules → List ℕ → Type 0
 left_out_at_end rules = IsAtEnd
 
@@ -194,8 +227,8 @@ ReadsField rules F octets (Err r) =
 
 -- Rows of fields.
 
--- The same of several fields, one behind another, which take all octets. The tag numbers that their strict octets may
--- begin with; and whether each optional field is told from what may follow it.
+-- The same of several fields, one behind another, which take all octets. The tags that their strict octets may begin
+-- with; and whether each optional field is told from what may follow it.
 pub record RowGrammar (S : Type 0) : Type 1 where
   pub Value : Type 0
   pub value : S → Value
@@ -203,7 +236,7 @@ pub record RowGrammar (S : Type 0) : Type 1 where
   pub IsDer : Value → Type 0
   pub Takes : EncodingRules → List ℕ → Value → Type 0
   pub Strict : Value → List ℕ → Type 0
-  pub numbers : Numbers
+  pub tags : FieldTags
   pub told : Bool
   pub allocates : Bool
 
@@ -216,21 +249,21 @@ empty_row = record {
   IsDer = λ v. Unit {0};
   Takes = λ rules octets v. octets ≡ [];
   Strict = λ v octets. octets ≡ [];
-  numbers = among [];
+  tags = among [];
   told = true;
   allocates = false;
 }
 
--- the numbers that a field and those behind it may begin with
-abbrev pub numbers_of : Bool → Numbers → Numbers → Numbers
-numbers_of false numbers behind = numbers
-numbers_of true numbers behind = or_those numbers behind
+-- the tags that a field and those behind it may begin with
+abbrev pub tags_of_row : Bool → FieldTags → FieldTags → FieldTags
+tags_of_row false tags behind = tags
+tags_of_row true tags behind = or_those tags behind
 
--- a field is told by its tag number, if it is optional, and so are those behind it
-abbrev pub is_unambiguous : Bool → Numbers → Numbers → Bool → Bool
-is_unambiguous optional numbers behind false = false
-is_unambiguous false numbers behind true = true
-is_unambiguous true numbers behind true = numbers_disjoint numbers behind
+-- a field is told by its tag, if it is optional, and so are those behind it
+abbrev pub is_unambiguous : Bool → FieldTags → FieldTags → Bool → Bool
+is_unambiguous optional tags behind false = false
+is_unambiguous false tags behind true = true
+is_unambiguous true tags behind true = disjoint_tags tags behind
 
 -- a field, and the others behind it
 abbrev pub row_of : {S R : Type 0} → FieldGrammar S → RowGrammar R → RowGrammar (S × R)
@@ -242,8 +275,8 @@ row_of F G = record {
   Takes = λ rules octets v. (rest : List ℕ) × F.Takes rules octets v.0 rest × G.Takes rules rest v.1;
   Strict = λ v octets. (first : List ℕ) × (others : List ℕ) × F.Strict v.0 first × G.Strict v.1 others ×
       (octets ≡ first ++ others);
-  numbers = numbers_of F.optional F.numbers G.numbers;
-  told = is_unambiguous F.optional F.numbers G.numbers G.told;
+  tags = tags_of_row F.optional F.tags G.tags;
+  told = is_unambiguous F.optional F.tags G.tags G.told;
   allocates = F.allocates || G.allocates;
 }
 

@@ -4,15 +4,17 @@
 //!
 //! - for each type [`HasKind`], which says by which rules the type is read and written, and [`HasReader`], which says
 //!   how it is read by DER;
-//! - for a struct [`LawfulStruct`], and [`ReadsFields`], [`ReadsFieldsByBer`], [`OfRow`] as it is needed;
+//! - for a struct its row, [`Row1`] to [`Row16`], [`LawfulStruct`], and [`ReadsFields`], [`ReadsFieldsByBer`], [`OfRow`]
+//!   as it is needed;
 //! - for a choice [`LawfulChoice`], [`OfArms`], [`ReadsChoice`], [`ReadsChoiceByBer`], [`ChecksChoice`];
 //! - for a leaf type [`LeafType`], [`ConvertsLeaf`], [`DerElement`] or [`TellsDerElement`], [`WritesElement`], and
 //!   [`LeafField`] for fields;
 //! - for what holds another type whole [`Holds`];
-//! - for a field, or an item of a set without repetitions, [`LawfulType`], [`ToldByNumber`], [`KeyType`],
-//!   [`AlwaysDerBy`], [`TellsDerBy`], and [`DefaultOf`] for a mark of a default.
+//! - for a field, or an item of a set without repetitions, [`LawfulType`], [`KeyType`], [`AlwaysDerBy`],
+//!   [`TellsDerBy`], of a choice [`ToldByNumber`], of a kind of its own [`ToldByTagBy`], and [`DefaultOf`] for a mark
+//!   of a default.
 //!
-//! The others follow from these, and bounds name them.
+//! The others follow from these, and bounds or macros name them.
 
 // kinds, and the readers and writers that follow from them
 pub use crate::kinds::assert_valid::{AlwaysDerBy, DerElement};
@@ -31,118 +33,27 @@ pub use crate::kinds::{
 };
 
 // structs and their fields
-pub use crate::structs::LawfulStruct;
-pub use crate::structs::OfRow;
-pub use crate::structs::ReadsBy;
-pub use crate::structs::ReadsFields;
-pub use crate::structs::ReadsFieldsByBer;
-pub use crate::structs::StructReader;
 pub use crate::structs::defaulted::DefaultOf;
 pub use crate::structs::der_form::FieldTellsDer;
-pub use crate::structs::field::FieldIsDer;
-pub use crate::structs::field::FieldType;
-pub use crate::structs::field::ItemType;
-pub use crate::structs::field::LawfulType;
-pub use crate::structs::field::ReadsField;
-pub use crate::structs::field::WritesField;
-pub use crate::structs::flat::assert_valid::assert_valid1;
-pub use crate::structs::flat::assert_valid::assert_valid2;
-pub use crate::structs::flat::assert_valid::assert_valid3;
-pub use crate::structs::flat::assert_valid::assert_valid4;
-pub use crate::structs::flat::assert_valid::assert_valid5;
-pub use crate::structs::flat::assert_valid::assert_valid6;
-pub use crate::structs::flat::assert_valid::assert_valid7;
-pub use crate::structs::flat::assert_valid::assert_valid8;
-pub use crate::structs::flat::assert_valid::assert_valid9;
-pub use crate::structs::flat::assert_valid::assert_valid10;
-pub use crate::structs::flat::assert_valid::assert_valid11;
-pub use crate::structs::flat::assert_valid::assert_valid12;
-pub use crate::structs::flat::assert_valid::assert_valid13;
-pub use crate::structs::flat::assert_valid::assert_valid14;
-pub use crate::structs::flat::assert_valid::assert_valid15;
-pub use crate::structs::flat::assert_valid::assert_valid16;
-pub use crate::structs::flat::der_form::are_der_fields1;
-pub use crate::structs::flat::der_form::are_der_fields2;
-pub use crate::structs::flat::der_form::are_der_fields3;
-pub use crate::structs::flat::der_form::are_der_fields4;
-pub use crate::structs::flat::der_form::are_der_fields5;
-pub use crate::structs::flat::der_form::are_der_fields6;
-pub use crate::structs::flat::der_form::are_der_fields7;
-pub use crate::structs::flat::der_form::are_der_fields8;
-pub use crate::structs::flat::der_form::are_der_fields9;
-pub use crate::structs::flat::der_form::are_der_fields10;
-pub use crate::structs::flat::der_form::are_der_fields11;
-pub use crate::structs::flat::der_form::are_der_fields12;
-pub use crate::structs::flat::der_form::are_der_fields13;
-pub use crate::structs::flat::der_form::are_der_fields14;
-pub use crate::structs::flat::der_form::are_der_fields15;
-pub use crate::structs::flat::der_form::are_der_fields16;
-pub use crate::structs::flat::in_der::in_der1;
-pub use crate::structs::flat::in_der::in_der2;
-pub use crate::structs::flat::in_der::in_der3;
-pub use crate::structs::flat::in_der::in_der4;
-pub use crate::structs::flat::in_der::in_der5;
-pub use crate::structs::flat::in_der::in_der6;
-pub use crate::structs::flat::in_der::in_der7;
-pub use crate::structs::flat::in_der::in_der8;
-pub use crate::structs::flat::in_der::in_der9;
-pub use crate::structs::flat::in_der::in_der10;
-pub use crate::structs::flat::in_der::in_der11;
-pub use crate::structs::flat::in_der::in_der12;
-pub use crate::structs::flat::in_der::in_der13;
-pub use crate::structs::flat::in_der::in_der14;
-pub use crate::structs::flat::in_der::in_der15;
-pub use crate::structs::flat::in_der::in_der16;
-pub use crate::structs::flat::puts::put1;
-pub use crate::structs::flat::puts::put2;
-pub use crate::structs::flat::puts::put3;
-pub use crate::structs::flat::puts::put4;
-pub use crate::structs::flat::puts::put5;
-pub use crate::structs::flat::puts::put6;
-pub use crate::structs::flat::puts::put7;
-pub use crate::structs::flat::puts::put8;
-pub use crate::structs::flat::puts::put9;
-pub use crate::structs::flat::puts::put10;
-pub use crate::structs::flat::puts::put11;
-pub use crate::structs::flat::puts::put12;
-pub use crate::structs::flat::puts::put13;
-pub use crate::structs::flat::puts::put14;
-pub use crate::structs::flat::puts::put15;
-pub use crate::structs::flat::puts::put16;
-pub use crate::structs::flat::rows::Row1;
-pub use crate::structs::flat::rows::Row2;
-pub use crate::structs::flat::rows::Row3;
-pub use crate::structs::flat::rows::Row4;
-pub use crate::structs::flat::rows::Row5;
-pub use crate::structs::flat::rows::Row6;
-pub use crate::structs::flat::rows::Row7;
-pub use crate::structs::flat::rows::Row8;
-pub use crate::structs::flat::rows::Row9;
-pub use crate::structs::flat::rows::Row10;
-pub use crate::structs::flat::rows::Row11;
-pub use crate::structs::flat::rows::Row12;
-pub use crate::structs::flat::rows::Row13;
-pub use crate::structs::flat::rows::Row14;
-pub use crate::structs::flat::rows::Row15;
-pub use crate::structs::flat::rows::Row16;
+pub use crate::structs::field::{
+    FieldIsDer, FieldType, ItemType, LawfulType, ReadsField, WritesField,
+};
+pub use crate::structs::flat::rows::{
+    Row1, Row2, Row3, Row4, Row5, Row6, Row7, Row8, Row9, Row10, Row11, Row12, Row13, Row14, Row15,
+    Row16,
+};
 pub use crate::structs::keys::KeyType;
-pub use crate::structs::members::MemberRow;
-pub use crate::structs::members::MemberType;
+pub use crate::structs::members::{MemberRow, MemberType};
 pub use crate::structs::numbers::ToldByNumber;
-pub use crate::structs::putting::WritesType;
-pub use crate::structs::putting::WritesTypeBy;
-pub use crate::structs::reading::FieldsByLaws;
-pub use crate::structs::reading::LeafField;
-pub use crate::structs::reading::ReadsType;
-pub use crate::structs::reading::ReadsTypeBy;
-pub use crate::structs::row::BorrowedRow;
-pub use crate::structs::row::DerRow;
-pub use crate::structs::row::ReadsRow;
-pub use crate::structs::row::Row;
-pub use crate::structs::row::row_by_ber;
-pub use crate::structs::row::row_by_der;
-pub use crate::structs::row::struct_by_ber;
-pub use crate::structs::row::struct_by_der;
+pub use crate::structs::putting::{WritesType, WritesTypeBy};
+pub use crate::structs::reading::{FieldsByLaws, LeafField, ReadsType, ReadsTypeBy};
+pub use crate::structs::row::{
+    BorrowedRow, DerRow, ReadsRow, Row, row_by_ber, row_by_der, struct_by_ber, struct_by_der,
+};
+pub use crate::structs::tags::{ToldByTag, ToldByTagBy};
+pub use crate::structs::{
+    LawfulStruct, OfRow, ReadsBy, ReadsFields, ReadsFieldsByBer, StructReader,
+};
 
 // choices and their arms
 pub use crate::choices::arms::{
@@ -180,3 +91,24 @@ pub use x690::characters::CharacterCode;
 pub use asn1_headers::buffer::{prepend_behind, prepend_octets};
 pub use asn1_headers::error::refusal_of_count;
 pub use asn1_headers::writer::{add_written, put_all};
+
+// called by the macros of bodies (`macros`): no author names them
+pub use crate::structs::flat::assert_valid::{
+    assert_valid1, assert_valid2, assert_valid3, assert_valid4, assert_valid5, assert_valid6,
+    assert_valid7, assert_valid8, assert_valid9, assert_valid10, assert_valid11, assert_valid12,
+    assert_valid13, assert_valid14, assert_valid15, assert_valid16,
+};
+pub use crate::structs::flat::der_form::{
+    are_der_fields1, are_der_fields2, are_der_fields3, are_der_fields4, are_der_fields5,
+    are_der_fields6, are_der_fields7, are_der_fields8, are_der_fields9, are_der_fields10,
+    are_der_fields11, are_der_fields12, are_der_fields13, are_der_fields14, are_der_fields15,
+    are_der_fields16,
+};
+pub use crate::structs::flat::in_der::{
+    in_der1, in_der2, in_der3, in_der4, in_der5, in_der6, in_der7, in_der8, in_der9, in_der10,
+    in_der11, in_der12, in_der13, in_der14, in_der15, in_der16,
+};
+pub use crate::structs::flat::puts::{
+    put1, put2, put3, put4, put5, put6, put7, put8, put9, put10, put11, put12, put13, put14, put15,
+    put16,
+};

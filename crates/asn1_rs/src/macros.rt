@@ -54,7 +54,8 @@ macro_rules! copy_fields {
     };
 }
 
-/// The body of `put_row`.
+/// The body of `put_row` of [`LawfulStruct`](crate::author::LawfulStruct), whose contract refuses a field that is
+/// missing or out of order.
 ///
 ///     put_fields!(self, fields => place, value, error)
 #[macro_export]
@@ -169,7 +170,8 @@ macro_rules! put_fields {
     };
 }
 
-/// The body of `assert_row_valid`.
+/// The body of `assert_row_valid` of [`LawfulStruct`](crate::author::LawfulStruct), whose contract says that the fields
+/// have values.
 ///
 ///     assert_fields_valid!(self => place, value, error)
 #[macro_export]

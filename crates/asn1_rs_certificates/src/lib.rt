@@ -1,11 +1,13 @@
-//! Certificates of X.509 (RFC 5280, 4.1), requests for them (RFC 2986), their status (RFC 6960) and signed content
-//! (RFC 5652), as structs of fields. They are read by DER exactly where their grammar says, and borrowed from the
-//! octets. They are written as their one strict encoding.
+//! Certificates of X.509 (RFC 5280, 4.1), requests for them (RFC 2986), their status (RFC 6960), signed content
+//! (RFC 5652) and time stamps (RFC 3161), as structs of fields. They are read by DER exactly where their grammar says,
+//! and borrowed from the octets. They are written as their one strict encoding.
 #![tactic(auto)]
 
 mod added;
 mod certificate;
 mod holder;
+mod kept;
+mod kept_stamps;
 mod names;
 mod profile;
 mod request;
@@ -14,9 +16,16 @@ mod signed;
 mod signed_data;
 mod signer;
 mod single_response;
+mod stamp_answer;
+mod stamp_details;
+mod stamp_request;
 mod status;
+mod time_stamp;
 mod times;
 mod verified;
+mod verified_content;
+mod verified_request;
+mod verified_response;
 
 pub use certificate::{
     Certificate, CertificateRow, certificate_vec, read_certificate, read_certificate_whole,
@@ -53,3 +62,22 @@ pub use status::{
 };
 pub use times::year_of;
 pub use verified::{SignedCertificate, SignedCertificateRow, read_signed_certificate};
+pub use verified_content::{
+    KeptAttributes, VerifiableDataRow, VerifiableSignedData, VerifiableSignerInfo,
+    VerifiableSignerRow, read_verifiable_signed_data,
+};
+pub use verified_request::{SignedRequest, SignedRequestRow, read_signed_request};
+pub use verified_response::{SignedResponse, SignedResponseRow, read_signed_response};
+
+// Time stamps.
+pub use stamp_answer::{
+    PkiStatusInfo, PkiStatusRow, TimeStampResp, TimeStampRespRow, read_stamp_answer,
+    stamp_answer_vec,
+};
+pub use stamp_request::{
+    RequestExtensions, TimeStampReq, TimeStampReqRow, read_stamp_request, stamp_request_vec,
+};
+pub use time_stamp::{
+    MessageImprint, MessageImprintRow, StampAuthority, StampExtensions, TstInfo, TstInfoRow,
+    read_tst_info, tst_info_vec,
+};

@@ -1,6 +1,7 @@
 //! Names (RFC 5280, 4.1.2.4).
 ghost use Rattle.std.specs.Prelude.{◌≡◌, IfOk, IfErr, Ok, Err};
-ghost use Rattle.asn1_rs.specs.Prelude.{MadeOf, parts_of, refl, struct_of};
+ghost use Rattle.asn1_rs.specs.Prelude.{as_element, MadeOf, parts_of, refl, struct_of};
+ghost use Rattle.asn1_rs.specs.Any.Kept.{kept_content};
 ghost use Rattle.asn1_rs.specs.Any.Text.{utf8_checks};
 
 use asn1_rs::author::{
@@ -8,7 +9,7 @@ use asn1_rs::author::{
     StructReader,
 };
 use asn1_rs::{
-    Any, DerParser, Error, Oid, SerializeResult, SetOf, assert_fields_valid, put_fields,
+    DerParser, Error, KeptAny, Oid, SerializeResult, SetOf, assert_fields_valid, put_fields,
     read_fields,
 };
 use std::alloc::Global;
@@ -26,11 +27,11 @@ pub type Name<'a> = Vec<SetOf<Attribute<'a>>>;
 #[derive(Debug, PartialEq, Eq, Drop)]
 pub struct Attribute<'a> {
     pub kind: Oid<'a>,
-    pub value: Any<'a>,
+    pub value: KeptAny<'a>,
 }
 
 /// Its fields.
-pub type AttributeRow<'a> = Row2<Oid<'a>, Any<'a>>;
+pub type AttributeRow<'a> = Row2<Oid<'a>, KeptAny<'a>>;
 
 impl HasKind for Attribute<'_> {
     type Kind = FieldsKind;
@@ -62,14 +63,14 @@ impl<'a> ReadsFields<'a> for Attribute<'a> {
     }
 }
 
-impl<'a> Attribute<'a> {
-    /// The text, which is borrowed from the octets. Refused with the first check of a string read as UTF-8 that the
+impl Attribute<'_> {
+    /// The text, which is borrowed from the value. Refused with the first check of a string read as UTF-8 that the
     /// value breaks. The tag number is checked first, then the octets.
-    pub fn text(&self) -> Result<&'a str, Error>
-        ensures text { IfOk result (λ text. text.now ≡ self.now.value.content.now) }
-        ensures checked { IfOk result (λ _. utf8_checks (parts_of self.now.value) (Ok tt)) }
-        ensures refused { IfErr result (λ e. utf8_checks (parts_of self.now.value) (Err e)) }
+    pub fn text(&self) -> Result<&str, Error>
+        ensures text { IfOk result (λ text. text.now ≡ kept_content self.now.value) }
+        ensures checked { IfOk result (λ _. utf8_checks (parts_of (as_element self.now.value)) (Ok tt)) }
+        ensures refused { IfErr result (λ e. utf8_checks (parts_of (as_element self.now.value)) (Err e)) }
     {
-        self.value.as_any_string()
+        self.value.as_any().as_any_string()
     }
 }

@@ -3,4 +3,5 @@ pub mod Filters
 pub mod Searches
 pub mod Controls
 pub mod Messages
+pub mod Numbers
 pub mod Operations

@@ -12,9 +12,10 @@ use Rattle.asn1_rs.specs.Choices.Data.{LawfulChoiceOf, arm_before, end_of_arms}
 use Rattle.asn1_rs.specs.Laws.Null.{null_lawful}
 use Rattle.asn1_rs.specs.Null.{null_leaf}
 use Rattle.asn1_rs.specs.Structs.Data.{LawfulTypeOf}
-use Rattle.asn1_rs.specs.Structs.Types.{implicit_type, leaf_type, unsigned_type}
+use Rattle.asn1_rs.specs.Structs.Types.{implicit_type, leaf_type}
 use Rattle.asn1_rs.specs.Choices.Within.{arms_within}
 use Rattle.asn1_rs.specs.declared.choices.taken_arm.OrTaken.{OrTaken}
+use Rattle.asn1_rs_ldap.specs.Numbers.{MessageId, message_id}
 use Rattle.asn1_rs_ldap.specs.Searches.{search_laws}
 use Rattle.asn1_rs_ldap.specs.declared.search.SearchRequest.{SearchRequest}
 use Rattle.asn1_rs_ldap.specs.declared.operation.OfOperations.{OfOperations}
@@ -30,7 +31,7 @@ operation_under number T = implicit_type 1 number (λ t. t.inner) T
 
 abbrev pub OperationArms : Type 0
 OperationArms =
-    Or (OperationUnder Null 2) (Or (OperationUnder ℕ 16)
+    Or (OperationUnder Null 2) (Or (OperationUnder MessageId 16)
     (OrTaken (OperationUnder SearchRequest 3) Never OfOperations 1 3) 1) 1
 
 abbrev pub in_operation_arms : Operation → OperationArms
@@ -40,5 +41,5 @@ in_operation_arms (operations.Search x) = arm.Other (arm.Other (record { arms = 
 
 unfoldable pub operation_laws : LawfulChoiceOf Operation
 operation_laws = choice_of in_operation_arms (arm_before 1 (operation_under 2 (leaf_type null_leaf null_lawful))
-    (arm_before 1 (operation_under 16 (unsigned_type 4))
+    (arm_before 1 (operation_under 16 message_id)
     (arms_within (λ x. x.arms) (arm_before 1 (operation_under 3 (struct_type search_laws)) end_of_arms)))) refl

@@ -31,9 +31,11 @@ pub use compared::{Asserted, Compared, ComparedArms};
 pub use control::{Control, ControlRow};
 pub use filter::{FilterArms, FilterOf, SimpleArms, SimpleFilter, filter_vec, read_filter};
 pub use matched::{Extensible, Matched, MatchedArms, Substrings};
-pub use message::{Controls, Message, MessageRow, message_vec, read_message, read_message_whole};
+pub use message::{
+    Controls, Message, MessageId, MessageRow, message_vec, read_message, read_message_whole,
+};
 pub use operation::{Abandon, OfOperations, Operation, OperationArms, Search, Unbind};
-pub use search::{SearchRequest, SearchRow};
+pub use search::{DerefAliases, Limit, SearchRequest, SearchRow};
 pub use substrings::{Substring, SubstringArms, SubstringFilter, SubstringFilterRow};
 
 /// Octets in place of whose tag a context-specific one stands.

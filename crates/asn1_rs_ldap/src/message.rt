@@ -1,4 +1,5 @@
 //! Messages (RFC 4511, 4.1.1).
+ghost use Rattle.std.specs.Prelude.{◌≤◌};
 ghost use Rattle.asn1_rs.specs.Prelude.{ber_words, IsWhole, MadeOf, ReadsByBer, seen, TakesWhole, WritesStrict};
 ghost use Rattle.asn1_rs_ldap.specs.Messages.{message_laws};
 
@@ -13,7 +14,11 @@ use asn1_rs::{
     BerParser, Error, FromBer, ParseResult, SerializeResult, TaggedImplicit, ToDer,
     assert_fields_valid, put_fields, read_ber, read_ber_whole, read_fields, strict_vec,
 };
+use asn1_rs_profiles::{Range, Refined};
 use std::alloc::Global;
+
+/// The number of a message, up to `maxInt`.
+pub type MessageId = Refined<u32, Range<0, 0x7fff_ffff>>;
 
 /// A message: its number, by which answers name it, and what is asked.
 ///
@@ -23,7 +28,7 @@ use std::alloc::Global;
 ///         controls    [0] Controls OPTIONAL }
 #[derive(Debug, PartialEq, Drop)]
 pub struct Message<'a> {
-    pub id: u32,
+    pub id: MessageId,
     pub operation: Operation<'a>,
     pub controls: Option<Controls<'a>>,
 }
@@ -32,7 +37,7 @@ pub struct Message<'a> {
 pub type Controls<'a> = TaggedImplicit<Vec<Control<'a>>, Error, 0>;
 
 /// Its fields.
-pub type MessageRow<'a> = Row3<u32, Operation<'a>, Option<Controls<'a>>>;
+pub type MessageRow<'a> = Row3<MessageId, Operation<'a>, Option<Controls<'a>>>;
 
 impl HasKind for Message<'_> {
     type Kind = FieldsKind;
@@ -92,4 +97,11 @@ pub fn message_vec(alloc: Global, message: &Message<'_>) -> SerializeResult<Vec<
         ⟦<Message<'static> as ToDer>⟧.writing message.now result }
 {
     strict_vec(alloc, message)
+}
+
+impl Message<'_> {
+    /// Each message in hand has a number that RFC 4511 allows.
+    pub fn has_number(&self)
+        ensures { self.now.id.value ≤ 2147483647 }
+    {}
 }

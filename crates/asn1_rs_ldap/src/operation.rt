@@ -7,6 +7,7 @@ ghost use Rattle.asn1_rs.specs.Choices.TaggedStructs.{ChecksTagged, ConvertsTagg
 ghost use Rattle.asn1_rs.specs.Choices.TaggedStructs.{tagged_checks, tagged_exact, tagged_lawful, tagged_never_oom};
 ghost use Rattle.asn1_rs_ldap.specs.declared.operation.Operation.TheVariants as operations;
 
+use crate::message::MessageId;
 use crate::search::SearchRequest;
 use asn1_rs::author::{
     ArmNumbers, ChoiceKind, ChoiceReader, HasKind, HasReader, LawfulChoice, LawfulType, Never,
@@ -35,7 +36,7 @@ pub enum Operation<'a> {
 pub type Unbind = ApplicationImplicit<Null, Error, 2>;
 
 /// Asks that the operation of the message with this number is given up.
-pub type Abandon = ApplicationImplicit<u32, Error, 16>;
+pub type Abandon = ApplicationImplicit<MessageId, Error, 16>;
 
 /// Asks for entries.
 pub type Search<'a> = ApplicationImplicit<SearchRequest<'a>, Error, 3>;

@@ -1,4 +1,5 @@
 //! A search (RFC 4511, 4.5.1).
+ghost use Rattle.std.specs.Prelude.{◌≤◌};
 ghost use Rattle.asn1_rs.specs.Prelude.{MadeOf};
 ghost use Rattle.asn1_rs_ldap.specs.Endings.{wanted_of};
 ghost use Rattle.asn1_rs_ldap.specs.Searches.{search_laws};
@@ -10,16 +11,26 @@ use asn1_rs::author::{
     StructReader, row_by_ber,
 };
 use asn1_rs::{BerParser, Enumerated, Error, OctetString, SerializeResult};
+use asn1_rs_profiles::{Range, Refined};
 use std::alloc::Global;
 
+/// Where a server follows aliases: nowhere (0), below the base, to find the base, or at both.
+pub type DerefAliases = Refined<Enumerated, Range<0, 3>>;
+
+/// How many entries, or how many seconds, up to `maxInt`. No limit is 0.
+pub type Limit = Refined<u32, Range<0, 0x7fff_ffff>>;
+
 /// A search: where it begins, how deep it goes, and what it wants of which entries.
+///
+/// The scope is the base alone (0), one level below (1), or all below (2). Its type is extensible, so that each number
+/// is read. The type of `derefAliases` is not.
 ///
 ///     SearchRequest ::= SEQUENCE {
 ///         baseObject    LDAPDN,
 ///         scope         ENUMERATED,
 ///         derefAliases  ENUMERATED,
-///         sizeLimit     INTEGER (0 .. maxInt),
-///         timeLimit     INTEGER (0 .. maxInt),
+///         sizeLimit     INTEGER,
+///         timeLimit     INTEGER,
 ///         typesOnly     BOOLEAN,
 ///         filter        Filter,
 ///         attributes    AttributeSelection }
@@ -27,9 +38,9 @@ use std::alloc::Global;
 pub struct SearchRequest<'a> {
     pub base_object: OctetString<'a>,
     pub scope: Enumerated,
-    pub deref_aliases: Enumerated,
-    pub size_limit: u32,
-    pub time_limit: u32,
+    pub deref_aliases: DerefAliases,
+    pub size_limit: Limit,
+    pub time_limit: Limit,
     pub types_only: bool,
     pub filter: Filter<'a>,
     pub attributes: Vec<OctetString<'a>>,
@@ -38,7 +49,7 @@ pub struct SearchRequest<'a> {
 /// Its fields: where it searches and up to which limits, and what it wants.
 pub type SearchRow<'a> = (
     OctetString<'a>,
-    (Enumerated, (Enumerated, (u32, (u32, Wanted<'a>)))),
+    (Enumerated, (DerefAliases, (Limit, (Limit, Wanted<'a>)))),
 );
 
 impl HasKind for SearchRequest<'_> {
@@ -97,4 +108,13 @@ impl<'a> ReadsFieldsByBer<'a> for SearchRequest<'a> {
             Err(e) => Err(e),
         }
     }
+}
+
+impl SearchRequest<'_> {
+    /// Each search in hand has aliases and limits that RFC 4511 allows.
+    pub fn has_numbers(&self)
+        ensures aliases { self.now.deref_aliases.value.0 ≤ 3 }
+        ensures entries { self.now.size_limit.value ≤ 2147483647 }
+        ensures seconds { self.now.time_limit.value ≤ 2147483647 }
+    {}
 }

@@ -1,6 +1,8 @@
 //! Content of a type that an identifier says (RFC 2315, 7). Attributes have values of such a type (RFC 2986, 4.1). Both
 //! are read by BER and by DER, and borrowed from the octets.
-ghost use Rattle.asn1_rs.specs.Prelude.{MadeOf, ReadsByBer, ReadsByDer, refl, seen, struct_of, WritesStrict};
+ghost use Rattle.std.specs.Prelude.{◌≡◌, IfOk, IfErr};
+ghost use Rattle.asn1_rs.specs.Prelude.{copied_by, MadeOf, OutOfMemory, ReadsByBer, ReadsByDer, refl, seen};
+ghost use Rattle.asn1_rs.specs.Prelude.{struct_of, WritesStrict};
 
 use asn1_rs::author::{
     Fields, FieldsKind, HasKind, HasReader, LawfulStruct, OfRow, ReadsFields, ReadsFieldsByBer,
@@ -8,8 +10,8 @@ use asn1_rs::author::{
 };
 use asn1_rs::laws::Grammar;
 use asn1_rs::{
-    Any, BerParser, DerParser, Error, Oid, ParseResult, SerializeResult, SetOf, TaggedExplicit,
-    ToDer, assert_fields_valid, put_fields, read_ber, read_der, strict_vec,
+    BerParser, DerParser, Error, KeptAny, Oid, ParseResult, SerializeResult, SetOf, TaggedExplicit,
+    ToDer, ToStatic, assert_fields_valid, copy_fields, put_fields, read_ber, read_der, strict_vec,
 };
 use std::alloc::Global;
 
@@ -25,7 +27,7 @@ pub struct ContentInfo<'a> {
 }
 
 /// An element of any type under a tag.
-pub type Content<'a> = TaggedExplicit<Any<'a>, Error, 0>;
+pub type Content<'a> = TaggedExplicit<KeptAny<'a>, Error, 0>;
 
 /// Its fields.
 pub type ContentRow<'a> = Row2<Oid<'a>, Option<Content<'a>>>;
@@ -83,6 +85,18 @@ impl<'a> ReadsFieldsByBer<'a> for ContentInfo<'a> {
     }
 }
 
+/// The copy owns its octets, and has the fields of its source.
+impl<'a> ToStatic for ContentInfo<'a> {
+    type Owned = ContentInfo<'static>;
+
+    ghost copies = { copied_by ⟦<ContentInfo<'a> as LawfulStruct>⟧.laws.as_row
+        ⟦<ContentRow<'static> as ToStatic>⟧.copies };
+
+    fn to_static(&self, alloc: Global) -> Result<ContentInfo<'static>, Error> {
+        copy_fields!(self, alloc => ContentInfo { content_type, content })
+    }
+}
+
 /// An attribute, with values of the type that its identifier says.
 ///
 ///     Attribute ::= SEQUENCE {
@@ -91,11 +105,11 @@ impl<'a> ReadsFieldsByBer<'a> for ContentInfo<'a> {
 #[derive(Debug, PartialEq, Drop)]
 pub struct Attribute<'a> {
     pub attribute_type: Oid<'a>,
-    pub values: SetOf<Any<'a>>,
+    pub values: SetOf<KeptAny<'a>>,
 }
 
 /// Its fields.
-pub type AttributeRow<'a> = Row2<Oid<'a>, SetOf<Any<'a>>>;
+pub type AttributeRow<'a> = Row2<Oid<'a>, SetOf<KeptAny<'a>>>;
 
 impl HasKind for Attribute<'_> {
     type Kind = FieldsKind;
@@ -150,6 +164,18 @@ impl<'a> ReadsFieldsByBer<'a> for Attribute<'a> {
     }
 }
 
+/// The copy owns its octets, and has the fields of its source.
+impl<'a> ToStatic for Attribute<'a> {
+    type Owned = Attribute<'static>;
+
+    ghost copies = { copied_by ⟦<Attribute<'a> as LawfulStruct>⟧.laws.as_row
+        ⟦<AttributeRow<'static> as ToStatic>⟧.copies };
+
+    fn to_static(&self, alloc: Global) -> Result<Attribute<'static>, Error> {
+        copy_fields!(self, alloc => Attribute { attribute_type, values })
+    }
+}
+
 /// The content at the front of the octets, by DER, and what follows it.
 pub fn read_content<'a>(alloc: Global, octets: &'a [u8]) -> ParseResult<'a, ContentInfo<'a>, Error>
     ensures { ReadsByDer ⟦<ContentInfo<'a> as Grammar>⟧.grammar octets.now (seen result) }
@@ -178,6 +204,16 @@ pub fn content_vec(alloc: Global, content: &ContentInfo<'_>) -> SerializeResult<
     strict_vec(alloc, content)
 }
 
+/// A copy of content, with the same value. It outlives the octets that the content was read from. Refused only when
+/// out of memory.
+pub fn kept_content(alloc: Global, content: &ContentInfo<'_>) -> Result<ContentInfo<'static>, Error>
+    ensures copied { IfOk result (λ copy. ⟦<ContentInfo<'static> as Grammar>⟧.grammar.value copy ≡
+        ⟦<ContentInfo<'static> as Grammar>⟧.grammar.value content.now) }
+    ensures refused { IfErr result (λ e. e ≡ OutOfMemory) }
+{
+    content.to_static(alloc)
+}
+
 /// The attribute at the front of the octets, by DER, and what follows it.
 pub fn read_attribute<'a>(alloc: Global, octets: &'a [u8]) -> ParseResult<'a, Attribute<'a>, Error>
     ensures { ReadsByDer ⟦<Attribute<'a> as Grammar>⟧.grammar octets.now (seen result) }
@@ -204,4 +240,14 @@ pub fn attribute_vec(alloc: Global, attribute: &Attribute<'_>) -> SerializeResul
         ⟦<Attribute<'static> as ToDer>⟧.writing attribute.now result }
 {
     strict_vec(alloc, attribute)
+}
+
+/// A copy of an attribute, with the same value. It outlives the octets that the attribute was read from. Refused only when
+/// out of memory.
+pub fn kept_attribute(alloc: Global, attribute: &Attribute<'_>) -> Result<Attribute<'static>, Error>
+    ensures copied { IfOk result (λ copy. ⟦<Attribute<'static> as Grammar>⟧.grammar.value copy ≡
+        ⟦<Attribute<'static> as Grammar>⟧.grammar.value attribute.now) }
+    ensures refused { IfErr result (λ e. e ≡ OutOfMemory) }
+{
+    attribute.to_static(alloc)
 }

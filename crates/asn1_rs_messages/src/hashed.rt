@@ -1,7 +1,7 @@
 //! A certificate by its hash (RFC 5035, 4), with a field whose default is a struct. It is read by DER, and borrowed
 //! from the octets.
 ghost use Rattle.std.specs.Prelude.{◌≡◌, None};
-ghost use Rattle.asn1_rs.specs.Prelude.{its_own_type, MadeOf, ReadsByDer, refl, seen, struct_of, WritesStrict};
+ghost use Rattle.asn1_rs.specs.Prelude.{copied_by, its_own_type, MadeOf, ReadsByDer, refl, seen, struct_of, WritesStrict};
 ghost use Rattle.asn1_rs.specs.Oid.{absolute, oid_value};
 ghost use Rattle.asn1_rs.specs.Structs.DefaultTypes.{default_of_key, lent_oid, octets_fit};
 ghost use Rattle.asn1_rs_messages.specs.Hashed.{sha256_octets};
@@ -13,8 +13,8 @@ use asn1_rs::author::{
 };
 use asn1_rs::laws::Grammar;
 use asn1_rs::{
-    Any, Defaulted, DerParser, Error, Integer, OctetString, Oid, ParseResult, SerializeResult,
-    ToDer, assert_fields_valid, put_fields, read_der, strict_vec,
+    Defaulted, DerParser, Error, Integer, KeptAny, OctetString, Oid, ParseResult, SerializeResult,
+    ToDer, ToStatic, assert_fields_valid, copy_fields, put_fields, read_der, strict_vec,
 };
 use std::alloc::Global;
 use std::borrow::CowSlice;
@@ -117,6 +117,18 @@ impl<'a> ReadsFields<'a> for HashedCertificate<'a> {
     }
 }
 
+/// The copy owns its octets, and has the fields of its source.
+impl<'a> ToStatic for HashedCertificate<'a> {
+    type Owned = HashedCertificate<'static>;
+
+    ghost copies = { copied_by ⟦<HashedCertificate<'a> as LawfulStruct>⟧.laws.as_row
+        ⟦<HashedRow<'static> as ToStatic>⟧.copies };
+
+    fn to_static(&self, alloc: Global) -> Result<HashedCertificate<'static>, Error> {
+        copy_fields!(self, alloc => HashedCertificate { algorithm, hash, issuer })
+    }
+}
+
 /// The issuer of a certificate and its number. Each name of the issuer is kept as the element that it is, and nothing
 /// asks that there is one.
 ///
@@ -127,12 +139,12 @@ impl<'a> ReadsFields<'a> for HashedCertificate<'a> {
 ///     GeneralNames ::= SEQUENCE SIZE (1..MAX) OF GeneralName
 #[derive(Debug, PartialEq, Eq, Drop)]
 pub struct IssuerSerial<'a> {
-    pub names: Vec<Any<'a>>,
+    pub names: Vec<KeptAny<'a>>,
     pub number: Integer<'a>,
 }
 
 /// Its fields.
-pub type IssuerRow<'a> = Row2<Vec<Any<'a>>, Integer<'a>>;
+pub type IssuerRow<'a> = Row2<Vec<KeptAny<'a>>, Integer<'a>>;
 
 impl HasKind for IssuerSerial<'_> {
     type Kind = FieldsKind;
@@ -172,6 +184,18 @@ impl<'a> ReadsFields<'a> for IssuerSerial<'a> {
 
     fn read_fields(alloc: Global, octets: &'a [u8]) -> Result<IssuerSerial<'a>, Error> {
         struct_by_der(alloc, octets)
+    }
+}
+
+/// The copy owns its octets, and has the fields of its source.
+impl<'a> ToStatic for IssuerSerial<'a> {
+    type Owned = IssuerSerial<'static>;
+
+    ghost copies = { copied_by ⟦<IssuerSerial<'a> as LawfulStruct>⟧.laws.as_row
+        ⟦<IssuerRow<'static> as ToStatic>⟧.copies };
+
+    fn to_static(&self, alloc: Global) -> Result<IssuerSerial<'static>, Error> {
+        copy_fields!(self, alloc => IssuerSerial { names, number })
     }
 }
 

@@ -10,6 +10,7 @@ mod alarm;
 mod content;
 mod extension;
 mod hashed;
+mod lamp;
 mod measurement;
 mod public_key;
 mod reminder;
@@ -24,7 +25,8 @@ mod validity;
 // of X.509, PKCS and CMS
 pub use content::{
     Attribute, AttributeRow, Content, ContentInfo, ContentRow, attribute_vec, content_vec,
-    read_attribute, read_attribute_by_ber, read_content, read_content_by_ber,
+    kept_attribute, kept_content, read_attribute, read_attribute_by_ber, read_content,
+    read_content_by_ber,
 };
 pub use extension::{
     Extension, ExtensionRow, extension_vec, kept_extension, read_extension, read_extension_by_ber,
@@ -45,6 +47,7 @@ pub use validity::{Validity, ValidityRow, read_validity, read_validity_by_ber, v
 
 // each of which shows what a field or a choice may be
 pub use alarm::{Alarm, AlarmRow, Muted, alarm_vec, read_alarm, read_alarm_by_ber};
+pub use lamp::{Brightness, Lamp, LampRow, lamp_vec, read_lamp, read_lamp_by_ber};
 pub use measurement::{
     Measurement, MeasurementRow, measurement_set_vec, measurement_vec, read_measurement,
     read_measurement_by_ber, read_measurement_set,

@@ -1,4 +1,5 @@
 //! The times of certificates: a choice of two types (RFC 5280, 4.1.2.5), by both rules.
+ghost use Rattle.std.specs.Prelude.{◌≡◌, false};
 ghost use Rattle.asn1_rs.specs.Prelude.{choice_numbers, choice_of, choice_type, ChoiceGives, ChoiceReads};
 ghost use Rattle.asn1_rs.specs.Prelude.{numbers_of_choice, ReadsByBer, ReadsByDer, refl, seen, WritesStrict};
 ghost use Rattle.asn1_rs.specs.declared.choices.arms.Or.TheVariants as arm;
@@ -13,7 +14,7 @@ use asn1_rs::author::{
 use asn1_rs::laws::{Grammar, TellsDer};
 use asn1_rs::{
     Any, DynTagged, Error, GeneralizedTime, ParseResult, SerializeResult, SetOf, Tag,
-    TaggedExplicit, ToDer, UtcTime, read_ber, read_der, strict_vec,
+    TaggedExplicit, ToDer, ToStatic, UtcTime, read_ber, read_der, strict_vec,
 };
 use std::alloc::Global;
 
@@ -113,6 +114,22 @@ impl TellsDerBy<ChoiceKind> for Time {
         match self {
             Time::Utc(time) => time.is_der_form(),
             Time::General(time) => time.is_der_form(),
+        }
+    }
+}
+
+/// A time holds no octets, so it is its own copy.
+impl ToStatic for Time {
+    type Owned = Time;
+
+    ghost copies = { λ source copy. copy ≡ source };
+
+    ghost copy_allocates = { false };
+
+    fn to_static(&self, alloc: Global) -> Result<Time, Error> {
+        match self {
+            Time::Utc(time) => Ok(Time::Utc(time.to_static(alloc)?)),
+            Time::General(time) => Ok(Time::General(time.to_static(alloc)?)),
         }
     }
 }

@@ -1,5 +1,6 @@
 //! How long a certificate is valid: a message of two fields that are choices, by both rules.
-ghost use Rattle.asn1_rs.specs.Prelude.{MadeOf, ReadsByBer, ReadsByDer, refl, seen, struct_of, WritesStrict};
+ghost use Rattle.std.specs.Prelude.{false};
+ghost use Rattle.asn1_rs.specs.Prelude.{copied_by, MadeOf, ReadsByBer, ReadsByDer, refl, seen, struct_of, WritesStrict};
 
 use crate::time::Time;
 use asn1_rs::author::{
@@ -8,8 +9,8 @@ use asn1_rs::author::{
 };
 use asn1_rs::laws::Grammar;
 use asn1_rs::{
-    BerParser, DerParser, Error, ParseResult, SerializeResult, ToDer, are_der_fields,
-    assert_fields_valid, put_fields, read_ber, read_der, read_fields, strict_vec,
+    BerParser, DerParser, Error, ParseResult, SerializeResult, ToDer, ToStatic, are_der_fields,
+    assert_fields_valid, copy_fields, put_fields, read_ber, read_der, read_fields, strict_vec,
 };
 use std::alloc::Global;
 
@@ -63,6 +64,20 @@ impl<'a> ReadsFieldsByBer<'a> for Validity {
 
     fn read_fields_by_ber(alloc: Global, octets: &'a [u8]) -> Result<Validity, Error> {
         read_fields!(row_by_ber, alloc, octets => Validity { not_before, not_after })
+    }
+}
+
+/// The copy has the times of its source.
+impl ToStatic for Validity {
+    type Owned = Validity;
+
+    ghost copies = { copied_by ⟦<Validity as LawfulStruct>⟧.laws.as_row
+        ⟦<ValidityRow as ToStatic>⟧.copies };
+
+    ghost copy_allocates = { false };
+
+    fn to_static(&self, alloc: Global) -> Result<Validity, Error> {
+        copy_fields!(self, alloc => Validity { not_before, not_after })
     }
 }
 

@@ -7,9 +7,10 @@
 //! A type says into which parts they look, and has the make of the value. [`InStruct`] stands for a struct of fields,
 //! [`InChoice`] for a choice, and [`Items`] for a list. [`UnderTag`] stands for a value under an explicit tag, and
 //! [`InImplicit`] for one under an implicit tag. [`Held`] stands for an `Option` and a `Defaulted`, and [`ReadAs`] for
-//! a subtype. [`Whole`] stands where a value is not looked into, and [`Named`] gives fields and arms names.
+//! a subtype. [`InPart`] stands for the last fields of a divided row. [`Whole`] stands where a value is not looked into.
+//! [`Named`] gives fields and arms names. A type with [`LooksInto`] of its own divides a deep look.
 //!
-//!     type ReminderLook = (Whole, (Held<UnderTag<Whole>>, (Held<Whole>, (Items<Whole>, ()))));
+//!     type ReminderLook = Row4<Whole, Held<UnderTag<Whole>>, Held<Whole>, Items<Whole>>;
 //!
 //!     match read_reminder(alloc, octets) {
 //!         Ok((rest, reminder)) => ..,
@@ -35,6 +36,6 @@ pub use items::Items;
 pub use looks::{Held, LooksInto, LooksWithin, ReadAs, ReadsValue, Whole};
 pub use names::{Named, NamesParts, NamesSteps, PartNames};
 pub use refused::{Found, Refused, Step};
-pub use rows::LooksIntoRow;
+pub use rows::{InPart, LooksIntoRow};
 pub use structs::InStruct;
 pub use texts::{Notation, WithNames};

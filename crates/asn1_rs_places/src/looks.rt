@@ -38,6 +38,19 @@ impl<'a, T: FromBer<'a, Error>> ReadsValue<'a, BerParser> for T {
 }
 
 /// A way to look into a `T` that the parser `P` reads. Where the `T` is refused, the look tells which part is.
+///
+/// A deep look is divided by a type of the caller's own, which looks by a part of it. The compiler finds out once that
+/// the part fits its type, and says of a deep look that is not divided that a requirement overflows:
+///
+///     impl<'a> LooksInto<'a, BerParser, VarBind<'a>> for OfVarBind {
+///         ghost silent = { ⟦<InVarBind<'a> as LooksInto<'a, BerParser, VarBind<'a>>>⟧.silent };
+///
+///         ghost tells = { ⟦<InVarBind<'a> as LooksInto<'a, BerParser, VarBind<'a>>>⟧.tells };
+///
+///         fn look(alloc: Global, octets: &'a [u8], end: usize) -> Option<Refused> {
+///             <InVarBind<'a> as LooksInto<'a, BerParser, VarBind<'a>>>::look(alloc, octets, end)
+///         }
+///     }
 pub trait LooksInto<'a, P, T> {
     /// Nothing is told of these octets.
     ghost silent: { List ℕ → Type 0 };

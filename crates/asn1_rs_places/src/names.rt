@@ -5,6 +5,7 @@ use crate::contents::{InImplicit, UnderTag};
 use crate::items::Items;
 use crate::looks::{Held, LooksInto, LooksWithin, ReadAs, Whole};
 use crate::refused::{Refused, Step};
+use crate::rows::InPart;
 use crate::structs::InStruct;
 use std::alloc::Global;
 use std::marker::PhantomData;
@@ -112,6 +113,12 @@ impl<L: NamesSteps, M: NamesParts> NamesParts for (L, M) {
         } else {
             M::name_within(place - 1, steps)
         }
+    }
+}
+
+impl<R, L: NamesParts> NamesParts for InPart<R, L> {
+    fn name_within(place: usize, steps: &[Step]) -> Option<&'static str> {
+        L::name_within(place, steps)
     }
 }
 

@@ -1,5 +1,5 @@
 -- A value that was read, and the element at the front, leave the same octets.
-use Rattle.std.proofs.Common.{◌≡◌, ◌∙◌, ap, sym, ℕ, ◌-◌, List, [], ◌++◌, append-nil, arith, length, length-append, take}
+use Rattle.std.proofs.Common.{◌≡◌, ◌∙◌, ap, sym, ℕ, ◌-◌, refl, List, [], ◌++◌, append-nil, arith, length, length-append, take}
 use Rattle.std.specs.Prelude.{Ok, Err}
 use Rattle.std.proofs.lemmas.List.{append_cancel_left}
 use Rattle.std.proofs.Math.Seq.{take-append_seam}
@@ -11,8 +11,12 @@ use Rattle.asn1_headers.specs.Header.Reading.{der_violation}
 use Rattle.asn1_headers.specs.declared.error.Err.{Err as Refusal}
 use Rattle.asn1_headers.specs.declared.error.Error.{Error}
 use Rattle.asn1_rs.specs.declared.asn1_types.any.Any.{Any}
-use Rattle.asn1_rs.specs.Any.{DerElementGives, parts_of}
+use Rattle.asn1_rs.specs.declared.asn1_types.any.kept.KeptAny.{KeptAny}
+use Rattle.asn1_rs.specs.Any.{DerElementGives, IsTheElement, parts_of}
+use Rattle.asn1_rs.specs.Any.Kept.{KeepsElement, as_element, kept_content}
+use Rattle.asn1_rs.specs.Any.Writing.{element_writing}
 use Rattle.asn1_rs.specs.Grammar.Item.{IsLawfulItem, ItemGrammar}
+use Rattle.asn1_rs.specs.ToDer.{whole_octets}
 use Rattle.asn1_rs.specs.Laws.Any.{refusal_lasts}
 use Rattle.asn1_rs.specs.Laws.Readers.{der_elements, refusal_speaks_now}
 
@@ -41,3 +45,18 @@ front_taken octets front rest n is e =
     let l = ap length is in
     let m : n ≡ length front = omega (arith, e, l, length-append front rest) in
     rw is (rw m (take-append_seam front rest))
+
+module _ (any other : Any) (same : IsTheElement any (Ok other)) where
+  -- The same element is at the front too.
+  pub begins_too : (input rest : List ℕ) → DerElementGives input (Ok (rest, any)) →
+      DerElementGives input (Ok (rest, other))
+  begins_too input rest g = rw same.0 (rw same.1 g)
+
+  -- It is written with the same octets.
+  pub writes_too : whole_octets element_writing other ≡ whole_octets element_writing any
+  writes_too = rw same.0 (rw same.1 refl)
+
+-- A copy is written with the octets of its source.
+pub copy_writes : (x y : KeptAny) → KeepsElement x.header (kept_content x) y →
+    whole_octets element_writing (as_element y) ≡ whole_octets element_writing (as_element x)
+copy_writes x y k = rw (k.0).class_is (rw (k.0).constructed_is (rw (k.0).tag_is (rw k.1 refl)))

@@ -1,6 +1,7 @@
 //! How accurate a time stamp is (RFC 3161, 2.4.2): numbers of a range under implicit tags, which may be left out.
-ghost use Rattle.asn1_rs.specs.Prelude.{key_of, MadeOf, ReadsByBer, ReadsByDer, refl, seen, struct_members};
-ghost use Rattle.asn1_rs.specs.Prelude.{struct_of, struct_type, WritesStrict};
+ghost use Rattle.std.specs.Prelude.{false};
+ghost use Rattle.asn1_rs.specs.Prelude.{copied_by, key_of, MadeOf, ReadsByBer, ReadsByDer, refl, seen};
+ghost use Rattle.asn1_rs.specs.Prelude.{struct_members, struct_of, struct_type, WritesStrict};
 
 use crate::refined::{Range, Refined};
 use asn1_rs::author::{
@@ -9,8 +10,9 @@ use asn1_rs::author::{
 };
 use asn1_rs::laws::{AlwaysDer, Grammar, LawfulMember};
 use asn1_rs::{
-    BerParser, DerParser, Error, ParseResult, SerializeResult, TaggedImplicit, ToDer,
-    assert_fields_valid, fields_in_der, put_fields, read_ber, read_der, read_fields, strict_vec,
+    BerParser, DerParser, Error, ParseResult, SerializeResult, TaggedImplicit, ToDer, ToStatic,
+    assert_fields_valid, copy_fields, fields_in_der, put_fields, read_ber, read_der, read_fields,
+    strict_vec,
 };
 use std::alloc::Global;
 
@@ -73,6 +75,20 @@ impl<'a> ReadsFieldsByBer<'a> for Accuracy {
 
     fn read_fields_by_ber(alloc: Global, octets: &'a [u8]) -> Result<Accuracy, Error> {
         read_fields!(row_by_ber, alloc, octets => Accuracy { seconds, millis, micros })
+    }
+}
+
+/// The copy has the fields of its source.
+impl ToStatic for Accuracy {
+    type Owned = Accuracy;
+
+    ghost copies = { copied_by ⟦<Accuracy as LawfulStruct>⟧.laws.as_row
+        ⟦<AccuracyRow as ToStatic>⟧.copies };
+
+    ghost copy_allocates = { false };
+
+    fn to_static(&self, alloc: Global) -> Result<Accuracy, Error> {
+        copy_fields!(self, alloc => Accuracy { seconds, millis, micros })
     }
 }
 

@@ -5,15 +5,16 @@ ghost use Rattle.asn1_rs.specs.Checks.{is_primitive};
 ghost use Rattle.asn1_rs.specs.Leaf.{LeafGives};
 ghost use Rattle.asn1_rs.specs.LeafReading.{leaf_reading};
 ghost use Rattle.asn1_rs.specs.Laws.Leaf.{leaf_exact, leaf_written};
+ghost use Rattle.asn1_rs_profiles.specs.Joined.{octets_of_joined};
 ghost use Rattle.asn1_rs_profiles.specs.Primitive.{octets_of_primitive, primitive_leaf};
 ghost use Rattle.asn1_rs_profiles.specs.Primitive.Laws.{primitive_equal, primitive_lawful};
 
-use crate::joined::{JoinedKind, OctetKind};
+use crate::joined::{Joined, JoinedKind, OctetKind};
 use asn1_rs::author::{
     ConvertsLeaf, DerElement, ElementKind, HasKind, LeafField, LeafType, WritesOctets,
 };
 use asn1_rs::laws::{LawfulMember, assert_octets_valid};
-use asn1_rs::{Any, Error, Tagged};
+use asn1_rs::{Any, Error, Tagged, ToStatic};
 use std::alloc::Global;
 use std::marker::PhantomData;
 
@@ -113,4 +114,15 @@ impl<K: JoinedKind> WritesOctets for Primitive<'_, K> {
 
 impl<K: JoinedKind> LawfulMember for Primitive<'_, K> {
     ghost same = { primitive_equal };
+}
+
+/// The copy of borrowed octets is a string that owns them, and is read in pieces too.
+impl<K: 'static> ToStatic for Primitive<'_, K> {
+    type Owned = Joined<'static, K>;
+
+    ghost copies = { λ source copy. octets_of_joined copy ≡ octets_of_primitive source };
+
+    fn to_static(&self, alloc: Global) -> Result<Joined<'static, K>, Error> {
+        Joined::new(self.octets).to_static(alloc)
+    }
 }

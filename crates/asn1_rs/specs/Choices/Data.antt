@@ -22,7 +22,8 @@ use Rattle.asn1_rs.specs.Choices.{choice_writing, is_tag_among, NoArmRefusal, ha
 use Rattle.asn1_rs.specs.Laws.Choices.{AreLawfulArms, AreLawfulPuts, no_arms_lawful, or_arms_lawful, no_puts, or_puts}
 use Rattle.asn1_rs.specs.Laws.Choices.{choice_lawful, choice_lawful_writing, clash, has_number_of}
 use Rattle.asn1_rs.specs.Laws.Structs.Rows.{first_holds, second_holds}
-use Rattle.asn1_rs.specs.Structs.{FormNumbers}
+use Rattle.asn1_rs.specs.Laws.Structs.Numbers.{numbers_in_any_class}
+use Rattle.asn1_rs.specs.Structs.{FormNumbers, in_any_class}
 use Rattle.asn1_rs.specs.Structs.Data.{LawfulTypeOf}
 
 -- Several types, of which a value is one's. Their laws hold where they are told apart, and each is sound.
@@ -112,14 +113,14 @@ abbrev pub choice_type : {T : Type 0} → LawfulChoiceOf T → LawfulTypeOf T
 choice_type T = record {
   class = 0;
   number = 0;
-  numbers = numbers_of_choice T;
+  tags = in_any_class (numbers_of_choice T);
   single = false;
   grammar = grammar_of_choice T;
   writing = writing_of_choice T;
   takes = λ class. false;
   sound = true;
   lawful = λ s. choice_lawful T.as_arms T.arms.grammar T.lawful;
-  begins = choice_numbers T;
+  begins = numbers_in_any_class (grammar_of_choice T).Form (numbers_of_choice T) (choice_numbers T);
   numbered = λ s. absurd (clash false s refl);
   classed = λ s. absurd (clash false s refl);
   fits = lit< tt;

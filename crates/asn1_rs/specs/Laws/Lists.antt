@@ -35,7 +35,7 @@ use Rattle.asn1_headers.specs.Answers.{Exactly, TellsMemory, IsOther}
 use Rattle.asn1_rs.specs.Grammar.Form.{IsOneForm, IsOneValue, FitsElement, HasValues, IsStrict, of_universal_class}
 use Rattle.asn1_rs.specs.Grammar.Form.{header_of}
 use Rattle.asn1_rs.specs.Grammar.Form.{WritesByValue, WritesForm, HasForm}
-use Rattle.asn1_rs.specs.Grammar.{IsOneBody, TakesBody, Checks, FormChecks, FormBodies, FormTakes, FormNumber, NoCheck}
+use Rattle.asn1_rs.specs.Grammar.{IsOneBody, TakesBody, Checks, FormChecks, FormBodies, FormTakes, FormClass, FormNumber, NoCheck}
 use Rattle.asn1_rs.specs.Grammar.{DerWord, made, of_class}
 use Rattle.asn1_headers.specs.Walk.{TakesItem, EndsItem}
 use Rattle.asn1_rs.specs.Sequence.Iterator.{IsWalk, TellsNoWord, IsMemory}
@@ -176,6 +176,10 @@ module _ {V : Type 0} (Form : V → Identifier → List ℕ → Type 0) (number 
   -- They have the tag number of the list.
   pub list_number : FormNumber (ListForm number Form) number
   list_number = λ vs i c f. ap (λ (z : Identifier). z.number) f.0
+
+  -- They are of the universal class.
+  pub list_class : FormClass (ListForm number Form) 0
+  list_class = λ vs i c f. ap (λ (z : Identifier). z.class) f.0
 
 -- Lists of lawful items are lawful.
 

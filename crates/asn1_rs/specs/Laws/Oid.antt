@@ -20,7 +20,7 @@ use Rattle.asn1_rs.specs.declared.asn1_types.any.Any.{Any}
 use Rattle.asn1_rs.specs.declared.asn1_types.oid.Oid.{Oid}
 use Rattle.asn1_rs.specs.Any.{parts_of}
 use Rattle.asn1_rs.specs.Checks.{CheckGives, IsCheck, has_number, is_counted, is_primitive}
-use Rattle.asn1_rs.specs.Grammar.{made, of_class, FormNumber, FormTakes, TakesBody}
+use Rattle.asn1_rs.specs.Grammar.{made, of_class, FormClass, FormNumber, FormTakes, TakesBody}
 use Rattle.asn1_rs.specs.Grammar.Form.{header_of, of_universal_class}
 use Rattle.asn1_rs.specs.Grammar.Item.{IsLawfulWriting}
 use Rattle.asn1_rs.specs.Kinds.{IsLawfulElement, IsExactCheck, IsExactConversion, item_grammar}
@@ -148,6 +148,10 @@ oid_lawful_writing = record {
 -- Their strict parts have their tag number.
 pub oid_form_number : FormNumber oid_element.Form oid_number
 oid_form_number = λ v i c f. ap (λ (z : Identifier). z.number) f.0
+
+-- They are of the universal class.
+pub oid_form_class : FormClass oid_element.Form 0
+oid_form_class = λ v i c f. ap (λ (z : Identifier). z.class) f.0
 
 -- Their tag number is one that an element can have.
 pub oid_number_fits : oid_number < 2 ^ 32

@@ -34,7 +34,7 @@ use Rattle.asn1_headers.specs.declared.error.SerializeError.{SerializeError}
 use Rattle.asn1_rs.specs.Grammar.Form.{IsOneForm, IsOneValue, FitsElement, HasValues, IsStrict, of_universal_class}
 use Rattle.asn1_rs.specs.Grammar.Form.{header_of}
 use Rattle.asn1_rs.specs.Grammar.Form.{WritesByValue, WritesForm, HasForm}
-use Rattle.asn1_rs.specs.Grammar.{IsOneBody, TakesBody, FormChecks, FormBodies, FormTakes, FormNumber, NoCheck, made}
+use Rattle.asn1_rs.specs.Grammar.{IsOneBody, TakesBody, FormChecks, FormBodies, FormTakes, FormClass, FormNumber, NoCheck, made}
 use Rattle.asn1_rs.specs.Grammar.{DerWord}
 use Rattle.asn1_rs.specs.Grammar.Item.{ItemGrammar, IsLawfulItem, ber_words}
 use Rattle.asn1_rs.specs.declared.asn1_types.any.Any.{Any}
@@ -174,6 +174,10 @@ module _ {V M : Type 0} (of : List V → M) (Each : List V → Type 0) (Form : V
   -- They have the tag number of sets.
   pub set_number : FormNumber (SetForm of Each Form) 17
   set_number = λ m i c f. ap (λ (z : Identifier). z.number) f.0
+
+  -- They are of the universal class.
+  pub set_class : FormClass (SetForm of Each Form) 0
+  set_class = λ m i c f. ap (λ (z : Identifier). z.class) f.0
 
 -- Sets of lawful items are lawful.
 

@@ -1,5 +1,5 @@
--- Fields of types that look at no tag number: of elements of any type, and of values with the header of their tag. What
--- stands there tells nothing of its number, so nothing that may be left out stands before one.
+-- Fields of types that look at no tag: of elements of any type, and of values with the header of their tag. What stands
+-- there tells nothing of its tag, so nothing that may be left out stands before one.
 use Rattle.std.specs.Prelude.{◌≡◌, ◌&&◌, ℕ, ◌<◌, Bool, true, Option}
 use Rattle.x690.specs.Identifiers.{Identifier}
 use Rattle.asn1_rs.specs.declared.asn1_types.any.Any.{Any}
@@ -17,7 +17,7 @@ use Rattle.asn1_rs.specs.Laws.Structs.Fields.{any_field_lawful, any_option_lawfu
 use Rattle.asn1_rs.specs.Laws.Structs.Rows.{first_holds, second_holds}
 use Rattle.asn1_rs.specs.Laws.Tagged.Headed.{each_class, explicit_headed_lawful, implicit_headed_lawful}
 use Rattle.asn1_rs.specs.Laws.Writing.{explicit_headed_lawful_writing, implicit_headed_lawful_writing}
-use Rattle.asn1_rs.specs.Structs.{any_number, item_field, optional_field, left_out_at_end}
+use Rattle.asn1_rs.specs.Structs.{any_tag, item_field, optional_field, left_out_at_end}
 use Rattle.asn1_rs.specs.Structs.Data.{ItemTypeOf, LawfulTypeOf, LawfulFieldOf}
 use Rattle.asn1_rs.specs.Tagged.Headed.{explicit_headed, implicit_headed}
 use Rattle.asn1_rs.specs.Tagged.Writing.{explicit_under, headed_writing, implicit_under}
@@ -25,21 +25,21 @@ use Rattle.asn1_rs.specs.Tagged.Writing.{explicit_under, headed_writing, implici
 -- one that is there, which stands where no field before it may be left out
 abbrev pub any_tag_field : {S : Type 0} → ItemTypeOf S → LawfulFieldOf S
 any_tag_field T = record {
-  grammar = item_field any_number T.grammar;
+  grammar = item_field any_tag T.grammar;
   writing = T.writing;
   sound = T.sound;
   lawful = λ s. any_field_lawful T.grammar (T.lawful s);
-  put = λ s. item_put T.grammar (T.lawful s) T.writing (T.written s) any_number;
+  put = λ s. item_put T.grammar (T.lawful s) T.writing (T.written s) any_tag;
 }
 
 -- one that may be left out, which stands last
 abbrev pub optional_any_tag_field : {S : Type 0} → ItemTypeOf S → LawfulFieldOf (Option S)
 optional_any_tag_field T = record {
-  grammar = optional_field any_number left_out_at_end T.grammar;
+  grammar = optional_field any_tag left_out_at_end T.grammar;
   writing = option_writing T.writing;
   sound = T.sound;
   lawful = λ s. any_option_lawful T.grammar (T.lawful s);
-  put = λ s. optional_put T.grammar (T.lawful s) T.writing (T.written s) any_number left_out_at_end;
+  put = λ s. optional_put T.grammar (T.lawful s) T.writing (T.written s) any_tag left_out_at_end;
 }
 
 -- elements of any type

@@ -2,9 +2,8 @@
 -- where a type can be quoted, and what holds a struct needs no bound on its fields.
 use Rattle.std.specs.Prelude.{◌≡◌, ◌≢◌, ◌&&◌, ◌<◌, ◌^◌, ℕ, Bool, true, false, List, [], ◌∷◌, Option, Result, Ok, Err}
 use Rattle.std.specs.Prelude.{IfErr}
-use Rattle.std.proofs.Common.{lit<, ap}
+use Rattle.std.proofs.Common.{lit<}
 use Rattle.x690.specs.Octets.{IsOctets}
-use Rattle.x690.specs.Identifiers.{Identifier}
 use Rattle.asn1_headers.specs.declared.error.Err.{Err as Refusal}
 use Rattle.asn1_headers.specs.declared.error.Error.{Error}
 use Rattle.asn1_headers.specs.declared.error.Error.TheVariants as errors
@@ -16,27 +15,28 @@ use Rattle.asn1_rs.specs.Grammar.Item.{ItemGrammar, IsLawfulItem, IsLawfulWritin
 use Rattle.asn1_rs.specs.Optional.{option_writing}
 use Rattle.asn1_rs.specs.ToDer.{Writing}
 use Rattle.asn1_rs.specs.Structs.{EncodingRules, FieldGrammar, RowGrammar, item_field, optional_field, empty_row, row_of}
-use Rattle.asn1_rs.specs.Structs.{MadeOf, among, FormNumbers, left_out_among, row_list, fields_by, struct_grammar, ReadsField, ReadsRow}
+use Rattle.asn1_rs.specs.Structs.{FormTags, MadeOf, TagClass, among, left_out_among, one_class, row_list, fields_by}
+use Rattle.asn1_rs.specs.Structs.{struct_grammar, ReadsField, ReadsRow}
 use Rattle.asn1_rs.specs.Laws.Structs.Fields.{IsLawfulField, IsLawfulPut, item_field_lawful, optional_field_lawful}
-use Rattle.asn1_rs.specs.Laws.Structs.Fields.{item_put, optional_put, one_number}
+use Rattle.asn1_rs.specs.Laws.Structs.Fields.{item_put, optional_put, one_tag}
 use Rattle.asn1_rs.specs.Laws.Structs.Rows.{IsLawfulRow, empty_lawful, row_lawful, first_holds, second_holds}
-use Rattle.asn1_rs.specs.Laws.Structs.Structs.{struct_lawful, struct_number, struct_takes_class}
+use Rattle.asn1_rs.specs.Laws.Structs.Structs.{struct_class, struct_lawful, struct_number, struct_takes_class}
 use Rattle.asn1_rs.specs.Laws.Structs.Writing.{IsLawfulPuts, empty_puts, row_puts, struct_lawful_writing}
 
--- A type of items, the tag numbers of its elements, and which classes of implicit tags may stand over it. A single type
--- has one class and one tag number; of another, as a choice is, these two tell nothing. The laws hold where it is
--- sound. A value under an implicit tag is sound where its type is single and takes the class of the tag.
+-- A type of items, the tags of its elements, and which classes of implicit tags may stand over it. A single type has
+-- one class and one tag number; of another, as a choice is, these two tell nothing. The laws hold where it is sound. A
+-- value under an implicit tag is sound where its type is single and takes the class of the tag.
 pub record LawfulTypeOf (S : Type 0) : Type 1 where
   pub class : ℕ
   pub number : ℕ
-  pub numbers : List ℕ
+  pub tags : List (TagClass × ℕ)
   pub single : Bool
   pub grammar : ItemGrammar S
   pub writing : Writing S
   pub takes : ℕ → Bool
   pub sound : Bool
   pub lawful : sound ≡ true → IsLawfulItem grammar
-  pub begins : FormNumbers grammar.Form numbers
+  pub begins : FormTags grammar.Form tags
   pub numbered : single ≡ true → FormNumber grammar.Form number
   pub classed : single ≡ true → FormClass grammar.Form class
   pub fits : number < 2 ^ 32
@@ -44,7 +44,7 @@ pub record LawfulTypeOf (S : Type 0) : Type 1 where
   pub takes_class : sound ≡ true → (class : ℕ) → takes class ≡ true →
       FormTakes grammar.Form grammar.Check grammar.Body class
 
--- What lists, sets and explicit tags ask of the type of what they hold, which may look at no tag number. The laws hold
+-- What lists, sets and explicit tags ask of the type of what they hold, which may look at no tag. The laws hold
 -- where it is sound.
 pub record ItemTypeOf (S : Type 0) : Type 1 where
   pub grammar : ItemGrammar S
@@ -78,7 +78,7 @@ pub record LawfulStructOf (T : Type 0) : Type 1 where
   pub puts : IsLawfulPuts row.grammar row.list
   pub told : row.grammar.told ≡ true
 
--- a type with tag numbers is one
+-- a type with tags is one
 abbrev pub item_of : {S : Type 0} → LawfulTypeOf S → ItemTypeOf S
 item_of T = record {
   grammar = T.grammar;
@@ -91,22 +91,22 @@ item_of T = record {
 -- a required field
 abbrev pub field_of : {S : Type 0} → LawfulTypeOf S → LawfulFieldOf S
 field_of T = record {
-  grammar = item_field (among T.numbers) T.grammar;
+  grammar = item_field (among T.tags) T.grammar;
   writing = T.writing;
   sound = T.sound;
-  lawful = λ s. item_field_lawful T.numbers T.grammar (T.lawful s) T.begins;
-  put = λ s. item_put T.grammar (T.lawful s) T.writing (T.written s) (among T.numbers);
+  lawful = λ s. item_field_lawful T.tags T.grammar (T.lawful s) T.begins;
+  put = λ s. item_put T.grammar (T.lawful s) T.writing (T.written s) (among T.tags);
 }
 
 -- an optional field
 abbrev pub optional_of : {S : Type 0} → LawfulTypeOf S → LawfulFieldOf (Option S)
 optional_of T = record {
-  grammar = optional_field (among T.numbers) (left_out_among T.numbers) T.grammar;
+  grammar = optional_field (among T.tags) (left_out_among T.tags) T.grammar;
   writing = option_writing T.writing;
   sound = T.sound;
-  lawful = λ s. optional_field_lawful T.numbers T.grammar (T.lawful s) T.begins;
-  put = λ s. optional_put T.grammar (T.lawful s) T.writing (T.written s) (among T.numbers)
-      (left_out_among T.numbers);
+  lawful = λ s. optional_field_lawful T.tags T.grammar (T.lawful s) T.begins;
+  put = λ s. optional_put T.grammar (T.lawful s) T.writing (T.written s) (among T.tags)
+      (left_out_among T.tags);
 }
 
 -- no fields
@@ -158,16 +158,16 @@ abbrev pub struct_type : {T : Type 0} → LawfulStructOf T → LawfulTypeOf T
 struct_type T = record {
   class = 0;
   number = 16;
-  numbers = 16 ∷ [];
+  tags = (one_class 0, 16) ∷ [];
   single = true;
   grammar = grammar_of_struct T;
   writing = writing_of_struct T;
   takes = λ class. true;
   sound = true;
   lawful = λ s. struct_lawful T.row.grammar T.lawful T.told T.as_row;
-  begins = one_number (grammar_of_struct T).Form 16 (struct_number T.row.grammar);
+  begins = one_tag (grammar_of_struct T).Form 0 16 (struct_class T.row.grammar) (struct_number T.row.grammar);
   numbered = λ s. struct_number T.row.grammar;
-  classed = λ s v i c f. ap (λ (z : Identifier). z.class) f.0;
+  classed = λ s. struct_class T.row.grammar;
   fits = lit< tt;
   written = λ s. struct_lawful_writing T.as_row T.row.grammar T.row.list T.puts;
   takes_class = λ s class t. struct_takes_class T.row.grammar T.lawful T.told class;

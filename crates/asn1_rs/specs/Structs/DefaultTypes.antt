@@ -23,7 +23,8 @@ use Rattle.asn1_rs.specs.Laws.Boolean.{bool_lawful}
 use Rattle.asn1_rs.specs.Laws.Enumerated.{enumerated_lawful, enumerated_equal}
 use Rattle.asn1_rs.specs.Laws.Integer.Signed.{signed_equal}
 use Rattle.asn1_rs.specs.Laws.Integer.Unsigned.{unsigned_equal}
-use Rattle.asn1_rs.specs.Structs.{EncodingRules, words_by, IsTruncatedBy, FieldGrammar, left_out_by, Numbers, among}
+use Rattle.asn1_rs.specs.Structs.{EncodingRules, words_by, IsTruncatedBy, FieldGrammar, FieldTags, TagClass, among}
+use Rattle.asn1_rs.specs.Structs.{left_out_among}
 use Rattle.asn1_rs.specs.Structs.{item_field, ReadsField}
 use Rattle.asn1_rs.specs.Structs.Data.{LawfulTypeOf, LawfulFieldOf, AnswersField}
 use Rattle.asn1_rs.specs.Structs.Defaults.{default_field, default_writing, DefaultGives}
@@ -43,27 +44,26 @@ pub record LawfulDefaultOf (S : Type 0) : Type 1 where
 
 -- a field with a default, of what holds an item of the type
 abbrev pub defaulted_field : {S W : Type 0} → (W → S) → LawfulDefaultOf S → FieldGrammar W
-defaulted_field inner D = default_field inner D.of.number D.of.grammar D.default
+defaulted_field inner D = default_field inner D.of.tags D.of.grammar D.default
 
 abbrev pub defaulted_of : {S W : Type 0} → (W → S) → LawfulDefaultOf S → LawfulFieldOf W
 defaulted_of inner D = record {
   grammar = defaulted_field inner D;
   writing = default_writing inner D.is_default D.of.writing;
   sound = D.of.single && D.of.sound;
-  lawful = λ s. default_field_lawful inner D.of.number D.of.grammar D.default
-      (D.of.lawful (second_holds D.of.single D.of.sound s)) (D.of.numbered (first_holds D.of.single D.of.sound s))
-      D.is_value;
-  put = λ s. default_put inner D.of.number D.of.grammar D.default D.is_default D.same
+  lawful = λ s. default_field_lawful inner D.of.tags D.of.grammar D.default
+      (D.of.lawful (second_holds D.of.single D.of.sound s)) D.of.begins D.is_value;
+  put = λ s. default_put inner D.of.tags D.of.grammar D.default D.is_default D.same
       (D.of.lawful (second_holds D.of.single D.of.sound s)) D.of.writing
       (D.of.written (second_holds D.of.single D.of.sound s));
 }
 
--- The type of a default is that of its readers. It is single and sound, and has their tag number, and their words with
--- the values that stand for theirs.
-pub record IsTypeOf {S : Type 0} (T : LawfulTypeOf S) (G : ItemGrammar S) (number : ℕ) : Type 0 where
+-- The type of a default is that of its readers. It is single and sound, and has their tags, and their words with the
+-- values that stand for theirs.
+pub record IsTypeOf {S : Type 0} (T : LawfulTypeOf S) (G : ItemGrammar S) (tags : List (TagClass × ℕ)) : Type 0 where
   pub single : T.single ≡ true
   pub sound : T.sound ≡ true
-  pub number_is : T.number ≡ number
+  pub tags_are : T.tags ≡ tags
   pub allocates : G.allocates ≡ T.grammar.allocates
   pub own : G.Value → T.grammar.Value
   pub value : (x : S) → own (G.value x) ≡ T.grammar.value x
@@ -74,11 +74,11 @@ pub record IsTypeOf {S : Type 0} (T : LawfulTypeOf S) (G : ItemGrammar S) (numbe
 
 -- where it is the very same
 abbrev pub its_own_type : {S : Type 0} {T : LawfulTypeOf S} → (T.single && T.sound) ≡ true →
-    IsTypeOf T T.grammar T.number
+    IsTypeOf T T.grammar T.tags
 its_own_type {S} {T} holds = record {
   single = first_holds T.single T.sound holds;
   sound = second_holds T.single T.sound holds;
-  number_is = refl;
+  tags_are = refl;
   allocates = refl;
   own = λ v. v;
   value = λ x. refl;
@@ -86,13 +86,12 @@ its_own_type {S} {T} holds = record {
   back = λ rules o v w. (v, w);
 }
 
-module _ {S W : Type 0} (inner : W → S) (D : LawfulDefaultOf S) (G : ItemGrammar S) (number : ℕ)
-    (t : IsTypeOf D.of G number) where
+module _ {S W : Type 0} (inner : W → S) (D : LawfulDefaultOf S) (G : ItemGrammar S)
+    (tags : List (TagClass × ℕ)) (t : IsTypeOf D.of G tags) where
   -- The field of a default that is of the type of its readers is lawful.
   pub defaulted_lawful : IsLawfulField (defaulted_field inner D)
   defaulted_lawful =
-      default_field_lawful inner D.of.number D.of.grammar D.default (D.of.lawful t.sound)
-      (D.of.numbered t.single) D.is_value
+      default_field_lawful inner D.of.tags D.of.grammar D.default (D.of.lawful t.sound) D.of.begins D.is_value
 
   module _ (l : IsLawfulItem G) (rules : EncodingRules)
       (reads : List ℕ → Result (List ℕ × S) (Refusal Error) → Type 0)
@@ -101,12 +100,12 @@ module _ {S W : Type 0} (inner : W → S) (D : LawfulDefaultOf S) (G : ItemGramm
       (TellsMemory G.allocates (λ (x y : Error). y ≡ x)) octets answer)
       (never_oom : G.allocates ≡ false → (octets : List ℕ) (answer : Result (List ℕ × S) (Refusal Error)) →
       reads octets answer → IfErr answer (ErrorIs (IsOther (λ (x y : Error). y ≡ x)))) where
-    abbrev numbers : Numbers
-    numbers = among (D.of.number ∷ [])
+    abbrev own_tags : FieldTags
+    own_tags = among D.of.tags
 
     own_answer : (octets : List ℕ) (answer : Result (List ℕ × S) (Refusal Error)) →
-        ReadsField rules (item_field numbers G) octets answer →
-        ReadsField rules (item_field numbers D.of.grammar) octets answer
+        ReadsField rules (item_field own_tags G) octets answer →
+        ReadsField rules (item_field own_tags D.of.grammar) octets answer
     own_answer octets (Ok x) f = record {
       word = f.word;
       fits = subst (words_by rules D.of.grammar f.word) (t.value x.1) (t.word rules f.word (G.value x.1) f.fits);
@@ -118,20 +117,20 @@ module _ {S W : Type 0} (inner : W → S) (D : LawfulDefaultOf S) (G : ItemGramm
         let w = t.back rules f.word v f.fits in none w.0 rest (record { word = f.word; fits = w.1; is = f.is }))
 
     own_reads : (octets : List ℕ) (answer : Result (List ℕ × S) (Refusal Error)) → IsOctets octets →
-        reads octets answer → ReadsField rules (item_field numbers D.of.grammar) octets answer
+        reads octets answer → ReadsField rules (item_field own_tags D.of.grammar) octets answer
     own_reads octets answer k g =
-        own_answer octets answer (item_reads G l rules reads exact numbers octets answer k g)
+        own_answer octets answer (item_reads G l rules reads exact own_tags octets answer k g)
 
     -- And where the reader of that type is exact, so is the reader of its field.
     pub defaulted_answers : (octets : List ℕ) (answer : Result (List ℕ × W) (Refusal Error)) →
-        DefaultGives inner D.of.grammar.value D.default (left_out_by number rules) reads octets answer →
+        DefaultGives inner D.of.grammar.value D.default (left_out_among tags rules) reads octets answer →
         AnswersField rules (defaulted_field inner D) octets answer
     defaulted_answers octets answer g =
-        let own = subst (λ (n : ℕ). DefaultGives inner D.of.grammar.value D.default (left_out_by n rules) reads octets
-        answer) (sym t.number_is) g in record {
-          exact = λ k. default_reads inner D.of.number D.of.grammar D.default rules reads own_reads octets answer k own;
-          no_memory = λ none. default_no_memory inner D.of.grammar.value D.default (left_out_by D.of.number rules) reads
-              (never_oom (t.allocates ∙ none)) octets answer own;
+        let own = subst (λ (z : List (TagClass × ℕ)). DefaultGives inner D.of.grammar.value D.default
+        (left_out_among z rules) reads octets answer) (sym t.tags_are) g in record {
+          exact = λ k. default_reads inner D.of.tags D.of.grammar D.default rules reads own_reads octets answer k own;
+          no_memory = λ none. default_no_memory inner D.of.grammar.value D.default (left_out_among D.of.tags rules)
+              reads (never_oom (t.allocates ∙ none)) octets answer own;
         }
 
 -- Defaults of the types of the library.

@@ -1,5 +1,5 @@
 -- Fields with a default, which are left out where they have it (X.690 11.5).
-use Rattle.std.specs.Prelude.{◌≡◌, ◌≢◌, ◌⊎◌, ◌∷◌, ℕ, Bool, true, if◌then◌else◌, List, []}
+use Rattle.std.specs.Prelude.{◌≡◌, ◌≢◌, ◌⊎◌, ℕ, Bool, true, if◌then◌else◌, List, []}
 use Rattle.std.specs.Prelude.{Option, Some, None, Result, Ok, Err, MatchResult}
 use Rattle.x690.specs.Identifiers.{Identifier}
 use Rattle.asn1_headers.specs.Answers.{HasPrefix}
@@ -9,7 +9,7 @@ use Rattle.asn1_rs.specs.Grammar.Form.{IsStrict}
 use Rattle.asn1_rs.specs.Grammar.Item.{ItemGrammar}
 use Rattle.asn1_rs.specs.Optional.{option_writing}
 use Rattle.asn1_rs.specs.ToDer.{Writing, inner_writing}
-use Rattle.asn1_rs.specs.Structs.{FieldGrammar, words_by, among, left_out_by}
+use Rattle.asn1_rs.specs.Structs.{FieldGrammar, TagClass, words_by, among, left_out_among}
 
 -- The default is read where the octets say that the field is left out. Else a word of its type begins them, whose value
 -- may be the default too.
@@ -21,16 +21,17 @@ DefaultTakes default LeftOut Words octets v rest =
 abbrev pub DefaultStrict : {V : Type 0} → V → (V → Identifier → List ℕ → Type 0) → V → List ℕ → Type 0
 DefaultStrict default Form v octets = ((v ≡ default) × (octets ≡ [])) ⊎ ((v ≢ default) × IsStrict Form v octets)
 
--- A field of a type with a tag number, and with a default.
-abbrev pub default_field : {S W : Type 0} → (W → S) → ℕ → (G : ItemGrammar S) → G.Value → FieldGrammar W
-default_field inner number G default = record {
+-- A field of a type with these tags, and with a default.
+abbrev pub default_field : {S W : Type 0} → (W → S) → List (TagClass × ℕ) → (G : ItemGrammar S) → G.Value →
+    FieldGrammar W
+default_field inner tags G default = record {
   Value = G.Value;
   value = λ x. G.value (inner x);
   IsValue = G.IsValue;
   IsDer = λ v. (v ≡ default) ⊎ G.IsDer v;
-  Takes = λ rules. DefaultTakes default (left_out_by number rules) (words_by rules G);
+  Takes = λ rules. DefaultTakes default (left_out_among tags rules) (words_by rules G);
   Strict = DefaultStrict default G.Form;
-  numbers = among (number ∷ []);
+  tags = among tags;
   optional = true;
   allocates = G.allocates;
 }

@@ -3,18 +3,18 @@
 use Rattle.std.specs.Prelude.{◌≡◌, ◌↔◌, ◌∷◌, ◌&&◌, [], ℕ, Bool, true, List, IsTrue}
 use Rattle.std.specs.Cmp.Lexicographic.{pointwise}
 use Rattle.std.specs.declared.cmp.Ordering.{Ordering}
-use Rattle.std.proofs.Common.{lit<, ap, refl}
+use Rattle.std.proofs.Common.{lit<, refl}
 use Rattle.x690.specs.Collections.{AllDiffer}
-use Rattle.x690.specs.Identifiers.{Identifier}
 use Rattle.asn1_rs.specs.Grammar.Item.{ber_words}
 use Rattle.asn1_rs.specs.Kinds.Writing.{set_writing}
 use Rattle.asn1_rs.specs.Laws.Lists.{same_lists}
-use Rattle.asn1_rs.specs.Laws.Set.{member_lawful, set_number, set_takes_class, ascending_apart, other_apart}
-use Rattle.asn1_rs.specs.Laws.Structs.Fields.{one_number}
+use Rattle.asn1_rs.specs.Laws.Set.{member_lawful, set_class, set_number, set_takes_class, ascending_apart, other_apart}
+use Rattle.asn1_rs.specs.Laws.Structs.Fields.{one_tag}
 use Rattle.asn1_rs.specs.Laws.Tagged.{same_beside_nothing}
 use Rattle.asn1_rs.specs.Laws.Words.{strict_ber}
 use Rattle.asn1_rs.specs.Laws.Writing.{member_lawful_writing}
 use Rattle.asn1_rs.specs.Set.{ascends, is_other, member_grammar, set_of}
+use Rattle.asn1_rs.specs.Structs.{one_class}
 use Rattle.asn1_rs.specs.Structs.Data.{LawfulTypeOf}
 use Rattle.asn1_rs.specs.Structs.Types.{list_type, explicit_type, implicit_type}
 
@@ -66,16 +66,17 @@ abbrev pub member_set_type : {S W : Type 0} (test : S → S → Bool) (keys : W 
 member_set_type test keys T apart = record {
   class = 0;
   number = 17;
-  numbers = 17 ∷ [];
+  tags = (one_class 0, 17) ∷ [];
   single = true;
   grammar = member_grammar test keys T.grammar;
   writing = set_writing keys T.writing;
   takes = λ class. true;
   sound = T.sound;
   lawful = λ s. member_lawful test keys T.grammar (T.lawful s);
-  begins = one_number (member_grammar test keys T.grammar).Form 17 (set_number set_of AllDiffer T.grammar.Form);
+  begins = one_tag (member_grammar test keys T.grammar).Form 0 17 (set_class set_of AllDiffer T.grammar.Form)
+      (set_number set_of AllDiffer T.grammar.Form);
   numbered = λ s. set_number set_of AllDiffer T.grammar.Form;
-  classed = λ s v i c f. ap (λ (z : Identifier). z.class) f.0;
+  classed = λ s. set_class set_of AllDiffer T.grammar.Form;
   fits = lit< tt;
   written = λ s. member_lawful_writing test keys T.grammar T.writing apart (T.lawful s) (T.written s);
   takes_class = λ s class t. set_takes_class set_of AllDiffer T.grammar.Form (ber_words T.grammar) T.grammar.Check

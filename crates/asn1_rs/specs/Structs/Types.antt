@@ -2,10 +2,9 @@
 use Rattle.std.specs.Prelude.{◌≡◌, ◌∷◌, ◌&&◌, nat_eq, ℕ, ℤ, Bool, true, false, refl, List, [], ◌<◌, IsTrue, pos}
 use Rattle.std.specs.Char.{is_ascii}
 use Rattle.std.specs.Str.{IsUtf8}
-use Rattle.std.proofs.Common.{lit<, ap}
+use Rattle.std.proofs.Common.{lit<}
 use Rattle.x690.specs.Characters.{IsCharacterCode, ucs4_octets_of, utf16_octets_of}
 use Rattle.x690.specs.Collections.{multiset, AnyList}
-use Rattle.x690.specs.Identifiers.{Identifier}
 use Rattle.x690.specs.Integers.{IsIntegerContent, unsigned_octets}
 use Rattle.x690.specs.Sets.{AllIn, is_numeric, is_printable, is_visible}
 use Rattle.x690.specs.Signed.{IsSigned, signed_octets}
@@ -30,17 +29,18 @@ use Rattle.asn1_rs.specs.Kinds.{ElementGrammar, IsLawfulElement, item_grammar}
 use Rattle.asn1_rs.specs.Kinds.Writing.{IsWrittenElement, list_writing, set_writing, universal_writing}
 use Rattle.asn1_rs.specs.Laws.Boolean.{boolean_lawful, boolean_lawful_writing}
 use Rattle.asn1_rs.specs.Laws.CodedStrings.{coded_string_lawful}
-use Rattle.asn1_rs.specs.Laws.Forms.{universal_lawful_writing, universal_number, universal_number_fits}
+use Rattle.asn1_rs.specs.Laws.Forms.{universal_class, universal_lawful_writing, universal_number, universal_number_fits}
 use Rattle.asn1_rs.specs.Laws.Integer.{integer_lawful, integer_written}
 use Rattle.asn1_rs.specs.Laws.Kinds.{lawful_item}
 use Rattle.asn1_rs.specs.Laws.Leaf.{leaf_lawful, leaf_written, copying_lawful, copying_written, refusing_written}
-use Rattle.asn1_rs.specs.Laws.Lists.{list_lawful, list_number, list_takes_class}
-use Rattle.asn1_rs.specs.Laws.Oid.{oid_lawful, oid_form_number, oid_number_fits, oid_lawful_writing, oid_takes_class}
-use Rattle.asn1_rs.specs.Laws.Set.{multiset_lawful, set_number, set_takes_class}
+use Rattle.asn1_rs.specs.Laws.Lists.{list_class, list_lawful, list_number, list_takes_class}
+use Rattle.asn1_rs.specs.Laws.Oid.{oid_lawful, oid_form_class, oid_form_number, oid_number_fits, oid_lawful_writing}
+use Rattle.asn1_rs.specs.Laws.Oid.{oid_takes_class}
+use Rattle.asn1_rs.specs.Laws.Set.{multiset_lawful, set_class, set_number, set_takes_class}
 use Rattle.asn1_rs.specs.Laws.Strings.{string_lawful}
 use Rattle.asn1_rs.specs.Laws.Tagged.{number_fits}
-use Rattle.asn1_rs.specs.Laws.Tagged.Explicit.{explicit_lawful, explicit_number, explicit_takes_class}
-use Rattle.asn1_rs.specs.Laws.Tagged.Implicit.{implicit_lawful, implicit_number, implicit_takes_class}
+use Rattle.asn1_rs.specs.Laws.Tagged.Explicit.{explicit_class, explicit_lawful, explicit_number, explicit_takes_class}
+use Rattle.asn1_rs.specs.Laws.Tagged.Implicit.{implicit_class, implicit_lawful, implicit_number, implicit_takes_class}
 use Rattle.asn1_rs.specs.Laws.Times.{utc_time_lawful, utc_time_accepted, generalized_time_lawful}
 use Rattle.asn1_rs.specs.Laws.Times.{generalized_time_accepted}
 use Rattle.asn1_rs.specs.Laws.Writing.{explicit_lawful_writing, implicit_lawful_writing, list_lawful_writing}
@@ -59,8 +59,9 @@ use Rattle.asn1_rs.specs.Tagged.Implicit.{implicit_grammar}
 use Rattle.asn1_rs.specs.Tagged.Writing.{explicit_under, implicit_under, tag_writing}
 use Rattle.asn1_rs.specs.Times.{utc_time_leaf, utc_time_refused, generalized_time_leaf, generalized_time_refused}
 use Rattle.asn1_rs.specs.Times.{moment_of, IsInvalidDateTime}
+use Rattle.asn1_rs.specs.Structs.{one_class}
 use Rattle.asn1_rs.specs.Structs.Data.{ItemTypeOf, LawfulTypeOf, item_of}
-use Rattle.asn1_rs.specs.Laws.Structs.Fields.{one_number}
+use Rattle.asn1_rs.specs.Laws.Structs.Fields.{one_tag}
 
 -- Types of one element.
 
@@ -71,16 +72,17 @@ abbrev pub refusing_type : {S : Type 0} (number : ℕ) (G : ElementGrammar S) (o
 refusing_type {S} number G octets is_refused refusal l w = record {
   class = 0;
   number = number;
-  numbers = number ∷ [];
+  tags = (one_class 0, number) ∷ [];
   single = true;
   grammar = item_grammar G;
   writing = universal_writing number octets is_refused refusal;
   takes = λ class. true;
   sound = true;
   lawful = λ s. lawful_item G l;
-  begins = one_number (item_grammar G).Form number (universal_number G number octets is_refused w);
+  begins = one_tag (item_grammar G).Form 0 number (universal_class G number octets is_refused w)
+      (universal_number G number octets is_refused w);
   numbered = λ s. universal_number G number octets is_refused w;
-  classed = λ s v i c f. ap (λ (z : Identifier). z.class) (w.identifier v i c f);
+  classed = λ s. universal_class G number octets is_refused w;
   fits = universal_number_fits G number octets is_refused w;
   written = λ s. universal_lawful_writing G number octets is_refused w refusal;
   takes_class = λ s class t. w.class class;
@@ -180,16 +182,16 @@ abbrev pub oid_type : LawfulTypeOf Oid
 oid_type = record {
   class = 0;
   number = 6;
-  numbers = 6 ∷ [];
+  tags = (one_class 0, 6) ∷ [];
   single = true;
   grammar = item_grammar oid_element;
   writing = oid_writing;
   takes = λ class. true;
   sound = true;
   lawful = λ s. lawful_item oid_element oid_lawful;
-  begins = one_number (item_grammar oid_element).Form 6 oid_form_number;
+  begins = one_tag (item_grammar oid_element).Form 0 6 oid_form_class oid_form_number;
   numbered = λ s. oid_form_number;
-  classed = λ s v i c f. ap (λ (z : Identifier). z.class) f.0;
+  classed = λ s. oid_form_class;
   fits = oid_number_fits;
   written = λ s. oid_lawful_writing;
   takes_class = λ s class t. oid_takes_class class;
@@ -202,23 +204,24 @@ abbrev pub list_over : {S W : Type 0} → (W → List S) → ItemTypeOf S → La
 list_over items T = record {
   class = 0;
   number = 16;
-  numbers = 16 ∷ [];
+  tags = (one_class 0, 16) ∷ [];
   single = true;
   grammar = list_grammar 16 items T.grammar;
   writing = list_writing 16 items T.writing;
   takes = λ class. true;
   sound = T.sound;
   lawful = λ s. list_lawful 16 (lit< tt) items T.grammar (T.lawful s);
-  begins = one_number (list_grammar 16 items T.grammar).Form 16 (list_number T.grammar.Form 16);
+  begins = one_tag (list_grammar 16 items T.grammar).Form 0 16 (list_class T.grammar.Form 16)
+      (list_number T.grammar.Form 16);
   numbered = λ s. list_number T.grammar.Form 16;
-  classed = λ s v i c f. ap (λ (z : Identifier). z.class) f.0;
+  classed = λ s. list_class T.grammar.Form 16;
   fits = lit< tt;
   written = λ s. list_lawful_writing 16 items T.grammar T.writing (T.lawful s) (T.written s);
   takes_class = λ s class t. list_takes_class T.grammar.Form 16 (ber_words T.grammar) T.grammar.Check
       (strict_ber T.grammar (T.lawful s)) (T.lawful s).form_check class;
 }
 
--- those of items of a type with tag numbers
+-- those of items of a type with tags
 abbrev pub list_type : {S W : Type 0} → (W → List S) → LawfulTypeOf S → LawfulTypeOf W
 list_type items T = list_over items (item_of T)
 
@@ -227,23 +230,24 @@ abbrev pub multiset_over : {S W : Type 0} → (W → List S) → ItemTypeOf S �
 multiset_over items T = record {
   class = 0;
   number = 17;
-  numbers = 17 ∷ [];
+  tags = (one_class 0, 17) ∷ [];
   single = true;
   grammar = multiset_grammar items T.grammar;
   writing = set_writing items T.writing;
   takes = λ class. true;
   sound = T.sound;
   lawful = λ s. multiset_lawful items T.grammar (T.lawful s);
-  begins = one_number (multiset_grammar items T.grammar).Form 17 (set_number multiset AnyList T.grammar.Form);
+  begins = one_tag (multiset_grammar items T.grammar).Form 0 17 (set_class multiset AnyList T.grammar.Form)
+      (set_number multiset AnyList T.grammar.Form);
   numbered = λ s. set_number multiset AnyList T.grammar.Form;
-  classed = λ s v i c f. ap (λ (z : Identifier). z.class) f.0;
+  classed = λ s. set_class multiset AnyList T.grammar.Form;
   fits = lit< tt;
   written = λ s. multiset_lawful_writing items T.grammar T.writing (T.lawful s) (T.written s);
   takes_class = λ s class t. set_takes_class multiset AnyList T.grammar.Form (ber_words T.grammar) T.grammar.Check
       (strict_ber T.grammar (T.lawful s)) (T.lawful s).form_check class;
 }
 
--- those of items of a type with tag numbers
+-- those of items of a type with tags
 abbrev pub multiset_type : {S W : Type 0} → (W → List S) → LawfulTypeOf S → LawfulTypeOf W
 multiset_type items T = multiset_over items (item_of T)
 
@@ -252,24 +256,24 @@ abbrev pub explicit_over : {S W : Type 0} (class number : ℕ) → (W → S) →
 explicit_over class number inner T = record {
   class = class;
   number = as_u32 number;
-  numbers = as_u32 number ∷ [];
+  tags = (one_class class, as_u32 number) ∷ [];
   single = true;
   grammar = explicit_grammar class number inner T.grammar;
   writing = tag_writing class number inner (explicit_under T.writing) T.writing;
   takes = λ other. nat_eq other class;
   sound = T.sound;
   lawful = λ s. explicit_lawful class number inner T.grammar (T.lawful s);
-  begins = one_number (explicit_grammar class number inner T.grammar).Form (as_u32 number)
-      (explicit_number class number T.grammar.Form);
+  begins = one_tag (explicit_grammar class number inner T.grammar).Form class (as_u32 number)
+      (explicit_class class number T.grammar.Form) (explicit_number class number T.grammar.Form);
   numbered = λ s. explicit_number class number T.grammar.Form;
-  classed = λ s v i c f. ap (λ (z : Identifier). z.class) f.id_is;
+  classed = λ s. explicit_class class number T.grammar.Form;
   fits = number_fits number;
   written = λ s. explicit_lawful_writing class number inner T.grammar T.writing (T.lawful s) (T.written s);
   takes_class = λ s other t. takes_own (explicit_grammar class number inner T.grammar) class other t (explicit_takes_class class number T.grammar.Form
       (ber_words T.grammar) T.grammar.Check (strict_ber T.grammar (T.lawful s)) (T.lawful s).form_check);
 }
 
--- those of a type with tag numbers
+-- those of a type with tags
 abbrev pub explicit_type : {S W : Type 0} (class number : ℕ) → (W → S) → LawfulTypeOf S → LawfulTypeOf W
 explicit_type class number inner T = explicit_over class number inner (item_of T)
 
@@ -278,7 +282,7 @@ abbrev pub implicit_type : {S W : Type 0} (class number : ℕ) → (W → S) →
 implicit_type class number inner T = record {
   class = class;
   number = as_u32 number;
-  numbers = as_u32 number ∷ [];
+  tags = (one_class class, as_u32 number) ∷ [];
   single = true;
   grammar = implicit_grammar class number T.number inner T.grammar;
   writing = tag_writing class number inner (implicit_under T.writing) T.writing;
@@ -289,10 +293,10 @@ implicit_type class number inner T = record {
       implicit_lawful class number T.number inner T.grammar l T.fits
       (T.numbered (first_holds T.single (T.sound && T.takes class) s))
       (T.takes_class (first_holds T.sound (T.takes class) own) class (second_holds T.sound (T.takes class) own));
-  begins = one_number (implicit_grammar class number T.number inner T.grammar).Form (as_u32 number)
-      (implicit_number class number T.grammar.Form);
+  begins = one_tag (implicit_grammar class number T.number inner T.grammar).Form class (as_u32 number)
+      (implicit_class class number T.grammar.Form) (implicit_number class number T.grammar.Form);
   numbered = λ s. implicit_number class number T.grammar.Form;
-  classed = λ s v i c f. ap (λ (z : Identifier). z.class) f.id_is;
+  classed = λ s. implicit_class class number T.grammar.Form;
   fits = number_fits number;
   written = λ s. let own = second_holds T.single (T.sound && T.takes class) s in
       implicit_lawful_writing class number inner T.grammar T.writing

@@ -1,14 +1,14 @@
-//! Fields that look at no tag number: values with the header of their tag. Elements of any type, which are such fields
-//! too, stand in [`field`](crate::structs::field).
+//! Fields of type `TaggedParser`, which takes any tag number and keeps the header that was read. Elements of any type,
+//! which take any tag number too, stand in [`field`](crate::structs::field).
 //!
-//! One stands where no field before it may be left out. One that may be left out itself is the last field: it is so
-//! where no octets are left.
+//! One stands where no field before it may be left out. An `Option` of one is the last field, and is `None` where no
+//! octets are left.
 ghost use Rattle.asn1_headers.specs.Answers.{seen};
 ghost use Rattle.asn1_headers.specs.Header.{identifier_of};
 ghost use Rattle.asn1_rs.specs.Laws.Structs.Fields.{any_field_lawful, any_option_lawful};
 ghost use Rattle.asn1_rs.specs.Laws.Tagged.Headed.{explicit_headed_lawful, implicit_headed_lawful};
 ghost use Rattle.asn1_rs.specs.Optional.{InSome, IsAtEnd, OptionGives, option_writing};
-ghost use Rattle.asn1_rs.specs.Structs.{any_number, item_field, left_out_at_end, optional_field};
+ghost use Rattle.asn1_rs.specs.Structs.{any_tag, item_field, left_out_at_end, optional_field};
 
 use crate::asn1_types::option::held;
 use crate::asn1_types::tagged::implicit_parser::TakesEachClass;
@@ -51,9 +51,11 @@ pub(crate) fn or_none_by_ber<'a, T: FromBer<'a, Error>>(
     held(T::from_ber(alloc, octets))
 }
 
+// explicit, by DER
+
 impl<'a, T: LawfulDer<'a, Error> + Drop> ReadsField<'a, DerParser>
     for TaggedParser<'a, Explicit, T, Error> {
-    ghost field_grammar = { item_field any_number ⟦<TaggedParser<'a, Explicit, T, Error> as Grammar>⟧.grammar };
+    ghost field_grammar = { item_field any_tag ⟦<TaggedParser<'a, Explicit, T, Error> as Grammar>⟧.grammar };
 
     ghost field_gives = { ⟦<TaggedParser<'a, Explicit, T, Error> as FromDer<'a, Error>>⟧.der_gives };
 
@@ -71,7 +73,7 @@ impl<'a, T: LawfulDer<'a, Error> + Drop> ReadsField<'a, DerParser>
 
 impl<'a, T: LawfulDer<'a, Error> + Drop + 'a> ReadsField<'a, DerParser>
     for Option<TaggedParser<'a, Explicit, T, Error>> {
-    ghost field_grammar = { optional_field any_number left_out_at_end
+    ghost field_grammar = { optional_field any_tag left_out_at_end
         ⟦<TaggedParser<'a, Explicit, T, Error> as Grammar>⟧.grammar };
 
     ghost field_gives = { OptionGives IsAtEnd
@@ -89,9 +91,11 @@ impl<'a, T: LawfulDer<'a, Error> + Drop + 'a> ReadsField<'a, DerParser>
     }
 }
 
+// explicit, by BER
+
 impl<'a, T: LawfulBer<'a, Error>> ReadsField<'a, BerParser>
     for TaggedParser<'a, Explicit, T, Error> {
-    ghost field_grammar = { item_field any_number ⟦<TaggedParser<'a, Explicit, T, Error> as Grammar>⟧.grammar };
+    ghost field_grammar = { item_field any_tag ⟦<TaggedParser<'a, Explicit, T, Error> as Grammar>⟧.grammar };
 
     ghost field_gives = { ⟦<TaggedParser<'a, Explicit, T, Error> as FromBer<'a, Error>>⟧.ber_gives };
 
@@ -109,7 +113,7 @@ impl<'a, T: LawfulBer<'a, Error>> ReadsField<'a, BerParser>
 
 impl<'a, T: LawfulBer<'a, Error> + 'a> ReadsField<'a, BerParser>
     for Option<TaggedParser<'a, Explicit, T, Error>> {
-    ghost field_grammar = { optional_field any_number left_out_at_end
+    ghost field_grammar = { optional_field any_tag left_out_at_end
         ⟦<TaggedParser<'a, Explicit, T, Error> as Grammar>⟧.grammar };
 
     ghost field_gives = { OptionGives IsAtEnd
@@ -127,9 +131,11 @@ impl<'a, T: LawfulBer<'a, Error> + 'a> ReadsField<'a, BerParser>
     }
 }
 
+// implicit, by DER
+
 impl<'a, T: LawfulBody<'a, Error> + LawfulCheck + TakesEachClass> ReadsField<'a, DerParser>
     for TaggedParser<'a, Implicit, T, Error> {
-    ghost field_grammar = { item_field any_number ⟦<TaggedParser<'a, Implicit, T, Error> as Grammar>⟧.grammar };
+    ghost field_grammar = { item_field any_tag ⟦<TaggedParser<'a, Implicit, T, Error> as Grammar>⟧.grammar };
 
     ghost field_gives = { ⟦<TaggedParser<'a, Implicit, T, Error> as FromDer<'a, Error>>⟧.der_gives };
 
@@ -147,7 +153,7 @@ impl<'a, T: LawfulBody<'a, Error> + LawfulCheck + TakesEachClass> ReadsField<'a,
 
 impl<'a, T: LawfulBody<'a, Error> + LawfulCheck + TakesEachClass + 'a> ReadsField<'a, DerParser>
     for Option<TaggedParser<'a, Implicit, T, Error>> {
-    ghost field_grammar = { optional_field any_number left_out_at_end
+    ghost field_grammar = { optional_field any_tag left_out_at_end
         ⟦<TaggedParser<'a, Implicit, T, Error> as Grammar>⟧.grammar };
 
     ghost field_gives = { OptionGives IsAtEnd
@@ -165,9 +171,11 @@ impl<'a, T: LawfulBody<'a, Error> + LawfulCheck + TakesEachClass + 'a> ReadsFiel
     }
 }
 
+// implicit, by BER
+
 impl<'a, T: LawfulBody<'a, Error> + LawfulItem + TakesEachClass> ReadsField<'a, BerParser>
     for TaggedParser<'a, Implicit, T, Error> {
-    ghost field_grammar = { item_field any_number ⟦<TaggedParser<'a, Implicit, T, Error> as Grammar>⟧.grammar };
+    ghost field_grammar = { item_field any_tag ⟦<TaggedParser<'a, Implicit, T, Error> as Grammar>⟧.grammar };
 
     ghost field_gives = { ⟦<TaggedParser<'a, Implicit, T, Error> as FromBer<'a, Error>>⟧.ber_gives };
 
@@ -185,7 +193,7 @@ impl<'a, T: LawfulBody<'a, Error> + LawfulItem + TakesEachClass> ReadsField<'a, 
 
 impl<'a, T: LawfulBody<'a, Error> + LawfulItem + TakesEachClass + 'a> ReadsField<'a, BerParser>
     for Option<TaggedParser<'a, Implicit, T, Error>> {
-    ghost field_grammar = { optional_field any_number left_out_at_end
+    ghost field_grammar = { optional_field any_tag left_out_at_end
         ⟦<TaggedParser<'a, Implicit, T, Error> as Grammar>⟧.grammar };
 
     ghost field_gives = { OptionGives IsAtEnd
@@ -202,6 +210,8 @@ impl<'a, T: LawfulBody<'a, Error> + LawfulItem + TakesEachClass + 'a> ReadsField
         or_none_by_ber(alloc, octets)
     }
 }
+
+// written by DER
 
 impl<'a, Kind, T> WritesField for TaggedParser<'a, Kind, T, Error>
 where

@@ -6,17 +6,21 @@ ghost use Rattle.std.specs.Prelude.{◌≡◌, ◌⊎◌, false};
 ghost use Rattle.std.proofs.Common.{refl};
 ghost use Rattle.asn1_headers.specs.Answers.{seen};
 ghost use Rattle.asn1_rs.specs.Laws.Structs.Defaults.{or_default_gives};
-ghost use Rattle.asn1_rs.specs.Structs.{by_der, by_ber, left_out_by};
+ghost use Rattle.asn1_rs.specs.Optional.{OptionGives};
+ghost use Rattle.asn1_rs.specs.Structs.{by_der, by_ber, left_out_among};
 ghost use Rattle.asn1_rs.specs.Structs.Defaults.{default_writing, DefaultGives, OrDefault};
 ghost use Rattle.asn1_rs.specs.Structs.DefaultTypes.{LawfulDefaultOf, defaulted_field, defaulted_of, defaulted_lawful};
 ghost use Rattle.asn1_rs.specs.Structs.DefaultTypes.{IsTypeOf, default_bool, its_own_type};
 
+use crate::asn1_types::option::held;
 use crate::kinds::fields::Fields;
 use crate::laws::assert_valid::AlwaysDer;
-use crate::laws::{Grammar, LawfulBer, LawfulDer, LawfulItem, LawfulTagged};
+use crate::laws::{LawfulBer, LawfulDer, LawfulItem};
 use crate::structs::field::{FieldIsDer, FieldType, LawfulType, ReadsField, WritesField};
+use crate::structs::reading::{left_out_by_ber, left_out_by_der};
+use crate::structs::tags::ToldByTag;
 use crate::to_der::ToDer;
-use crate::traits::{DynTagged, FromBer, FromDer, Tagged};
+use crate::traits::{DynTagged, FromBer, FromDer};
 use asn1_headers::buffer::DerBuffer;
 use asn1_headers::content::{BerParser, DerParser};
 use asn1_headers::error::{Error, ParseResult, SerializeResult};
@@ -68,7 +72,7 @@ impl<T, D> Defaulted<T, D> {
 ///
 ///         ghost of_type = { its_own_type refl };
 ///     }
-pub trait DefaultOf<T: Grammar + Tagged> {
+pub trait DefaultOf<T: ToldByTag> {
     /// The default, with the type that it is of, and how it is told from the other values.
     ghost default_laws: { LawfulDefaultOf T };
 
@@ -81,7 +85,7 @@ pub trait DefaultOf<T: Grammar + Tagged> {
         ensures { result ≡ default_laws.is_default value.now };
 
     /// That type is the one that is read.
-    ghost of_type: { IsTypeOf Self.default_laws.of T.grammar (T.TAG).0 };
+    ghost of_type: { IsTypeOf Self.default_laws.of T.grammar T.tags };
 }
 
 /// The mark of truth values that are false where they are left out: `BOOLEAN DEFAULT FALSE` (X.680 25.1). Nothing is
@@ -103,7 +107,7 @@ impl DefaultOf<bool> for DefaultFalse {
     ghost of_type = { its_own_type refl };
 }
 
-impl<T: Grammar + Tagged, D: DefaultOf<T>> Defaulted<T, D> {
+impl<T: ToldByTag, D: DefaultOf<T>> Defaulted<T, D> {
     /// Whether the value is the default, so that nothing is written.
     pub fn is_default(&self) -> bool
         ensures { result ≡ D.default_laws.is_default self.now.value }
@@ -112,12 +116,12 @@ impl<T: Grammar + Tagged, D: DefaultOf<T>> Defaulted<T, D> {
     }
 }
 
-impl<T: Grammar + Tagged, D: DefaultOf<T>> FieldType for Defaulted<T, D> {
+impl<T: ToldByTag, D: DefaultOf<T>> FieldType for Defaulted<T, D> {
     ghost field_laws = { defaulted_of (λ x. x.value) D.default_laws };
 }
 
 /// The value that was read, or the default where none was.
-fn or_default<'a, T: Grammar + Tagged, D: DefaultOf<T>>(
+fn or_default<'a, T: ToldByTag, D: DefaultOf<T>>(
     alloc: Global,
     answer: ParseResult<'a, Option<T>, Error>,
 ) -> ParseResult<'a, Defaulted<T, D>, Error>
@@ -131,47 +135,75 @@ fn or_default<'a, T: Grammar + Tagged, D: DefaultOf<T>>(
     }
 }
 
+/// The value at the front of the octets by DER, or none where the octets say that the field is left out.
+#[tactic(auto, using(crate::specs::Laws::Structs::Numbers::gives_none, crate::specs::Laws::Structs::Numbers::gives_some))]
+fn optional_by_der<'a, T: FromDer<'a, Error> + ToldByTag>(
+    alloc: Global,
+    octets: &'a [u8],
+) -> ParseResult<'a, Option<T>, Error>
+    ensures { OptionGives (left_out_among T.tags by_der) T.der_gives octets.now (seen result) }
+{
+    if left_out_by_der::<T>(octets) {
+        return Ok((octets, None));
+    }
+    held(T::from_der(alloc, octets))
+}
+
+/// The same by BER.
+#[tactic(auto, using(crate::specs::Laws::Structs::Numbers::gives_none, crate::specs::Laws::Structs::Numbers::gives_some))]
+fn optional_by_ber<'a, T: FromBer<'a, Error> + ToldByTag>(
+    alloc: Global,
+    octets: &'a [u8],
+) -> ParseResult<'a, Option<T>, Error>
+    ensures { OptionGives (left_out_among T.tags by_ber) T.ber_gives octets.now (seen result) }
+{
+    if left_out_by_ber::<T>(octets) {
+        return Ok((octets, None));
+    }
+    held(T::from_ber(alloc, octets))
+}
+
 impl<'a, T, D> ReadsField<'a, DerParser> for Defaulted<T, D>
 where
-    T: LawfulType + LawfulDer<'a, Error> + LawfulTagged,
+    T: LawfulType + LawfulDer<'a, Error> + ToldByTag,
     D: DefaultOf<T>,
 {
     ghost field_grammar = { defaulted_field (λ x. x.value) D.default_laws };
 
     ghost field_gives = { DefaultGives (λ x. x.value) D.default_laws.of.grammar.value
-        D.default_laws.default (left_out_by (T.TAG).0 by_der) T.der_gives };
+        D.default_laws.default (left_out_among T.tags by_der) T.der_gives };
 
-    ghost lawful_field = { defaulted_lawful (λ x. x.value) D.default_laws T.grammar (T.TAG).0 D.of_type };
+    ghost lawful_field = { defaulted_lawful (λ x. x.value) D.default_laws T.grammar T.tags D.of_type };
 
     #[inline(always)]
     #[tactic(auto, using(crate::specs::Laws::Structs::Defaults::or_default_gives))]
     fn read_field(alloc: Global, octets: &'a [u8]) -> ParseResult<'a, Defaulted<T, D>, Error> {
-        or_default(alloc, Option::<T>::from_der(alloc, octets))
+        or_default(alloc, optional_by_der::<T>(alloc, octets))
     }
 }
 
 impl<'a, T, D> ReadsField<'a, BerParser> for Defaulted<T, D>
 where
-    T: LawfulType + LawfulBer<'a, Error> + LawfulTagged,
+    T: LawfulType + LawfulBer<'a, Error> + ToldByTag,
     D: DefaultOf<T>,
 {
     ghost field_grammar = { defaulted_field (λ x. x.value) D.default_laws };
 
     ghost field_gives = { DefaultGives (λ x. x.value) D.default_laws.of.grammar.value
-        D.default_laws.default (left_out_by (T.TAG).0 by_ber) T.ber_gives };
+        D.default_laws.default (left_out_among T.tags by_ber) T.ber_gives };
 
-    ghost lawful_field = { defaulted_lawful (λ x. x.value) D.default_laws T.grammar (T.TAG).0 D.of_type };
+    ghost lawful_field = { defaulted_lawful (λ x. x.value) D.default_laws T.grammar T.tags D.of_type };
 
     #[inline(always)]
     #[tactic(auto, using(crate::specs::Laws::Structs::Defaults::or_default_gives))]
     fn read_field(alloc: Global, octets: &'a [u8]) -> ParseResult<'a, Defaulted<T, D>, Error> {
-        or_default(alloc, Option::<T>::from_ber(alloc, octets))
+        or_default(alloc, optional_by_ber::<T>(alloc, octets))
     }
 }
 
 impl<T, D> WritesField for Defaulted<T, D>
 where
-    T: LawfulType + LawfulItem + ToDer + Tagged,
+    T: LawfulType + LawfulItem + ToDer + ToldByTag,
     D: DefaultOf<T>,
 {
     ghost field_writing = { default_writing (λ x. x.value) D.default_laws.is_default T.writing };
@@ -188,7 +220,7 @@ where
     }
 }
 
-impl<T: LawfulType + AlwaysDer + Tagged, D: DefaultOf<T>> FieldIsDer for Defaulted<T, D> {
+impl<T: LawfulType + AlwaysDer + ToldByTag, D: DefaultOf<T>> FieldIsDer for Defaulted<T, D> {
     ghost is_in_der = { λ x. (D.default_laws.of.grammar.value x.value ≡ D.default_laws.default) ⊎
         T.grammar.IsDer (T.grammar.value x.value) };
 
@@ -207,7 +239,7 @@ impl<T: DynTagged, D> DynTagged for Defaulted<T, D> {
 }
 
 /// The default has no octets. Another value is counted and written as itself. Its raw form is the DER form.
-impl<T: ToDer + Grammar + Tagged, D: DefaultOf<T>> ToDer for Defaulted<T, D> {
+impl<T: ToDer + ToldByTag, D: DefaultOf<T>> ToDer for Defaulted<T, D> {
     ghost writing = { default_writing (λ x. x.value) D.default_laws.is_default T.writing };
 
     fn to_der_len(&self) -> Result<usize, Error> {

@@ -7,7 +7,7 @@ use crate::asn1_types::any::Any;
 use crate::laws::der_form::TellsDer;
 use crate::structs::defaulted::{DefaultOf, Defaulted};
 use crate::structs::field::LawfulType;
-use crate::traits::Tagged;
+use crate::structs::tags::ToldByTag;
 
 /// A field that tells whether its value is in DER form.
 pub trait FieldTellsDer {
@@ -59,7 +59,7 @@ impl FieldTellsDer for Option<Any<'_>> {
 }
 
 /// Where it has the default, which is not written (X.690 11.5), or a value in DER form.
-impl<T: LawfulType + TellsDer + Tagged, D: DefaultOf<T>> FieldTellsDer for Defaulted<T, D> {
+impl<T: LawfulType + TellsDer + ToldByTag, D: DefaultOf<T>> FieldTellsDer for Defaulted<T, D> {
     ghost in_der_form = { λ x. (D.default_laws.of.grammar.value x.value ≡ D.default_laws.default) ⊎
         T.grammar.IsDer (T.grammar.value x.value) };
 

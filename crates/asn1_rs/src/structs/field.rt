@@ -14,7 +14,7 @@ ghost use Rattle.asn1_rs.specs.Laws.Kinds.{lawful_item};
 ghost use Rattle.asn1_rs.specs.Optional.{InSome, IsAtEnd, OptionGives, option_writing};
 ghost use Rattle.asn1_rs.specs.ToDer.{Writing};
 ghost use Rattle.asn1_rs.specs.Laws.Structs.Fields.{IsLawfulField, item_field_lawful, optional_field_lawful, any_field_lawful, any_option_lawful};
-ghost use Rattle.asn1_rs.specs.Structs.{FieldGrammar, item_field, optional_field, any_number, left_out_among, left_out_at_end, by_der, by_ber};
+ghost use Rattle.asn1_rs.specs.Structs.{FieldGrammar, item_field, optional_field, any_tag, left_out_among, left_out_at_end, by_der, by_ber};
 ghost use Rattle.asn1_rs.specs.Structs.Reading.{left_out_field, required_field};
 ghost use Rattle.asn1_rs.specs.Structs.Data.{ItemTypeOf, LawfulTypeOf, LawfulFieldOf, AnswersField, field_of, item_of, optional_of};
 
@@ -37,12 +37,12 @@ use std::alloc::Global;
 /// The types of the library that have it are listed in [`types`](crate::structs::types), with those of callers. The
 /// author of a choice writes it, with `choice_type`.
 pub trait LawfulType {
-    /// Its tag numbers, its grammar and how it is written, with their laws.
+    /// Its tags, its grammar and how it is written, with their laws.
     ghost type_laws: { LawfulTypeOf Self };
 }
 
-/// A type whose items may stand in a list, in a set or under an explicit tag that is a field of a struct. It has tag
-/// numbers ([`LawfulType`]), or looks at none.
+/// A type whose items may stand in a list, in a set or under an explicit tag that is a field of a struct. It has tags
+/// ([`LawfulType`]), or looks at none.
 pub trait ItemType {
     /// Its grammar and how it is written, with their laws.
     ghost item_laws: { ItemTypeOf Self };
@@ -88,7 +88,7 @@ impl<'a, T: ReadsType<'a, P>, P: ReadsBy> ReadsField<'a, P> for T {
 
     ghost field_gives = { T.type_gives };
 
-    ghost lawful_field = { item_field_lawful T.numbered.numbers T.numbered.grammar
+    ghost lawful_field = { item_field_lawful T.numbered.tags T.numbered.grammar
         T.lawful_type.lawful T.lawful_type.begins };
 
     #[inline(always)]
@@ -102,9 +102,9 @@ impl<'a, T: ReadsType<'a, P>, P: ReadsBy> ReadsField<'a, P> for T {
 impl<'a, T: ReadsType<'a, DerParser>> ReadsField<'a, DerParser> for Option<T> {
     ghost field_grammar = { left_out_field T.numbered };
 
-    ghost field_gives = { OptionGives (left_out_among T.numbered.numbers by_der) T.type_gives };
+    ghost field_gives = { OptionGives (left_out_among T.numbered.tags by_der) T.type_gives };
 
-    ghost lawful_field = { optional_field_lawful T.numbered.numbers T.numbered.grammar
+    ghost lawful_field = { optional_field_lawful T.numbered.tags T.numbered.grammar
         T.lawful_type.lawful T.lawful_type.begins };
 
     #[inline(always)]
@@ -119,9 +119,9 @@ impl<'a, T: ReadsType<'a, DerParser>> ReadsField<'a, DerParser> for Option<T> {
 impl<'a, T: ReadsType<'a, BerParser>> ReadsField<'a, BerParser> for Option<T> {
     ghost field_grammar = { left_out_field T.numbered };
 
-    ghost field_gives = { OptionGives (left_out_among T.numbered.numbers by_ber) T.type_gives };
+    ghost field_gives = { OptionGives (left_out_among T.numbered.tags by_ber) T.type_gives };
 
-    ghost lawful_field = { optional_field_lawful T.numbered.numbers T.numbered.grammar
+    ghost lawful_field = { optional_field_lawful T.numbered.tags T.numbered.grammar
         T.lawful_type.lawful T.lawful_type.begins };
 
     #[inline(always)]
@@ -134,7 +134,7 @@ impl<'a, T: ReadsType<'a, BerParser>> ReadsField<'a, BerParser> for Option<T> {
 }
 
 impl<'a> ReadsField<'a, DerParser> for Any<'a> {
-    ghost field_grammar = { item_field any_number (item_grammar any_element) };
+    ghost field_grammar = { item_field any_tag (item_grammar any_element) };
 
     ghost field_gives = { DerGives IsDefiniteOr IsTheElement (λ e f. f ≡ e) };
 
@@ -149,7 +149,7 @@ impl<'a> ReadsField<'a, DerParser> for Any<'a> {
 }
 
 impl<'a> ReadsField<'a, DerParser> for Option<Any<'a>> {
-    ghost field_grammar = { optional_field any_number left_out_at_end (item_grammar any_element) };
+    ghost field_grammar = { optional_field any_tag left_out_at_end (item_grammar any_element) };
 
     ghost field_gives = { OptionGives IsAtEnd (DerGives IsDefiniteOr IsTheElement (λ e f. f ≡ e)) };
 
@@ -164,7 +164,7 @@ impl<'a> ReadsField<'a, DerParser> for Option<Any<'a>> {
 }
 
 impl<'a> ReadsField<'a, BerParser> for Any<'a> {
-    ghost field_grammar = { item_field any_number (item_grammar any_element) };
+    ghost field_grammar = { item_field any_tag (item_grammar any_element) };
 
     ghost field_gives = { BerGives IsTheElement (λ e f. f ≡ e) };
 
@@ -179,7 +179,7 @@ impl<'a> ReadsField<'a, BerParser> for Any<'a> {
 }
 
 impl<'a> ReadsField<'a, BerParser> for Option<Any<'a>> {
-    ghost field_grammar = { optional_field any_number left_out_at_end (item_grammar any_element) };
+    ghost field_grammar = { optional_field any_tag left_out_at_end (item_grammar any_element) };
 
     ghost field_gives = { OptionGives IsAtEnd (BerGives IsTheElement (λ e f. f ≡ e)) };
 

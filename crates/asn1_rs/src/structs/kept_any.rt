@@ -9,7 +9,7 @@ ghost use Rattle.asn1_rs.specs.Laws.Any.Kept.{kept_element_lawful};
 ghost use Rattle.asn1_rs.specs.Laws.Kinds.{lawful_item};
 ghost use Rattle.asn1_rs.specs.Laws.Structs.Fields.{any_field_lawful, any_option_lawful};
 ghost use Rattle.asn1_rs.specs.Optional.{InSome, IsAtEnd, OptionGives, option_writing};
-ghost use Rattle.asn1_rs.specs.Structs.{any_number, by_ber, by_der, item_field, left_out_at_end, optional_field};
+ghost use Rattle.asn1_rs.specs.Structs.{any_tag, by_ber, by_der, item_field, left_out_at_end, optional_field};
 ghost use Rattle.asn1_rs.specs.Structs.Data.{AnswersField};
 ghost use Rattle.asn1_rs.specs.Traits.{BerGives, DerGives};
 
@@ -23,13 +23,13 @@ use asn1_headers::content::{BerParser, DerParser};
 use asn1_headers::error::{Error, ParseResult, SerializeResult};
 use std::alloc::Global;
 
-/// A value that is told by no number, by DER, in the words of its field.
+/// A value that is told by no tag, by DER, in the words of its field.
 #[inline(always)]
 fn untold_by_der<'a, T: LawfulDer<'a, Error>>(
     alloc: Global,
     octets: &'a [u8],
 ) -> ParseResult<'a, T, Error>
-    ensures exact { AnswersField by_der (item_field any_number T.grammar) octets.now (seen result) }
+    ensures exact { AnswersField by_der (item_field any_tag T.grammar) octets.now (seen result) }
     ensures gives { T.der_gives octets.now (seen result) }
 {
     T::from_der(alloc, octets)
@@ -41,7 +41,7 @@ fn untold_by_ber<'a, T: LawfulBer<'a, Error>>(
     alloc: Global,
     octets: &'a [u8],
 ) -> ParseResult<'a, T, Error>
-    ensures exact { AnswersField by_ber (item_field any_number T.grammar) octets.now (seen result) }
+    ensures exact { AnswersField by_ber (item_field any_tag T.grammar) octets.now (seen result) }
     ensures gives { T.ber_gives octets.now (seen result) }
 {
     T::from_ber(alloc, octets)
@@ -53,7 +53,7 @@ fn untold_or_none_by_der<'a, T: LawfulDer<'a, Error>>(
     alloc: Global,
     octets: &'a [u8],
 ) -> ParseResult<'a, Option<T>, Error>
-    ensures exact { AnswersField by_der (optional_field any_number left_out_at_end T.grammar)
+    ensures exact { AnswersField by_der (optional_field any_tag left_out_at_end T.grammar)
         octets.now (seen result) }
     ensures gives { OptionGives IsAtEnd T.der_gives octets.now (seen result) }
 {
@@ -66,7 +66,7 @@ fn untold_or_none_by_ber<'a, T: LawfulBer<'a, Error>>(
     alloc: Global,
     octets: &'a [u8],
 ) -> ParseResult<'a, Option<T>, Error>
-    ensures exact { AnswersField by_ber (optional_field any_number left_out_at_end T.grammar)
+    ensures exact { AnswersField by_ber (optional_field any_tag left_out_at_end T.grammar)
         octets.now (seen result) }
     ensures gives { OptionGives IsAtEnd T.ber_gives octets.now (seen result) }
 {
@@ -74,7 +74,7 @@ fn untold_or_none_by_ber<'a, T: LawfulBer<'a, Error>>(
 }
 
 impl<'a> ReadsField<'a, DerParser> for KeptAny<'a> {
-    ghost field_grammar = { item_field any_number (item_grammar kept_element) };
+    ghost field_grammar = { item_field any_tag (item_grammar kept_element) };
 
     ghost field_gives = { DerGives IsDefiniteOr (InnerGives as_element IsTheElement)
         (λ e f. f ≡ e) };
@@ -89,7 +89,7 @@ impl<'a> ReadsField<'a, DerParser> for KeptAny<'a> {
 }
 
 impl<'a> ReadsField<'a, DerParser> for Option<KeptAny<'a>> {
-    ghost field_grammar = { optional_field any_number left_out_at_end
+    ghost field_grammar = { optional_field any_tag left_out_at_end
         (item_grammar kept_element) };
 
     ghost field_gives = { OptionGives IsAtEnd (DerGives IsDefiniteOr
@@ -105,7 +105,7 @@ impl<'a> ReadsField<'a, DerParser> for Option<KeptAny<'a>> {
 }
 
 impl<'a> ReadsField<'a, BerParser> for KeptAny<'a> {
-    ghost field_grammar = { item_field any_number (item_grammar kept_element) };
+    ghost field_grammar = { item_field any_tag (item_grammar kept_element) };
 
     ghost field_gives = { BerGives (InnerGives as_element IsTheElement) (λ e f. f ≡ e) };
 
@@ -119,7 +119,7 @@ impl<'a> ReadsField<'a, BerParser> for KeptAny<'a> {
 }
 
 impl<'a> ReadsField<'a, BerParser> for Option<KeptAny<'a>> {
-    ghost field_grammar = { optional_field any_number left_out_at_end
+    ghost field_grammar = { optional_field any_tag left_out_at_end
         (item_grammar kept_element) };
 
     ghost field_gives = { OptionGives IsAtEnd (BerGives (InnerGives as_element IsTheElement)

@@ -3,8 +3,8 @@
 //! has.
 //!
 //! The fields of a struct are a **row** ([`row`]): pairs of a field's type and the row behind it, with `()` at the end.
-//! A field is of a type with laws, told by its tag numbers ([`numbers`]), or an `Option` of one ([`field`]). [`types`]
-//! says which types have such laws.
+//! A field is of a type with laws, told by its tags ([`tags`]), or an `Option` of one ([`field`]). [`types`] says which
+//! types have such laws.
 //!
 //!     pub type MeasurementRow = (u32, (u64, (Option<u8>, ())));
 //!
@@ -26,6 +26,7 @@ pub(crate) mod numbers;
 pub(crate) mod putting;
 pub(crate) mod reading;
 pub(crate) mod row;
+pub(crate) mod tags;
 pub(crate) mod types;
 pub(crate) mod writing;
 

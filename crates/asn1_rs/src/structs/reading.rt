@@ -20,7 +20,7 @@ use crate::kinds::fields::FieldsKind;
 use crate::kinds::reading::FromDerBy;
 use crate::kinds::{ElementKind, HasKind, HolderKind};
 use crate::laws::{LawfulBer, LawfulDer};
-use crate::structs::numbers::{ToldByNumber, is_left_out};
+use crate::structs::tags::{ToldByTag, is_left_out};
 use crate::structs::{ReadsBy, ReadsFields, ReadsFieldsByBer, StructReader};
 use crate::traits::{FromBer, FromDer};
 use asn1_headers::content::{BerParser, DerParser};
@@ -32,25 +32,25 @@ use std::alloc::Global;
 ///
 /// The leaf types of the library have it. So have types with a kind: structs with [`ReadsFields`] or
 /// [`ReadsFieldsByBer`], and lists, sets, values under tags, choices and holders that have [`LawfulDer`] or
-/// [`LawfulBer`], and [`ToldByNumber`]. A leaf type of an author has it by [`LeafField`].
+/// [`LawfulBer`], and [`ToldByTag`]. A leaf type of an author has it by [`LeafField`].
 pub trait ReadsType<'a, P: ReadsBy>: Sized {
-    /// Its grammar, with the tag numbers of its elements.
+    /// Its grammar, with the tags of its elements.
     ghost numbered: { NumberedGrammar Self };
 
     /// What reading it may answer to these octets.
     ghost type_gives: { List ℕ → Result (List ℕ × Self) (Refusal Error) → Type 0 };
 
     /// Whether an optional field of the type is left out of the octets. It is where there are no octets, or a header
-    /// begins them that has none of its tag numbers.
+    /// begins them that has none of its tags: another tag number, or another class.
     fn is_left_out(octets: &'a [u8]) -> bool
-        ensures { IsTrue result ↔ left_out_among numbered.numbers P.rules octets.now };
+        ensures { IsTrue result ↔ left_out_among numbered.tags P.rules octets.now };
 
     /// The value at the front of the octets, and what follows it.
     fn read_type(alloc: Global, octets: &'a [u8]) -> ParseResult<'a, Self, Error>
         ensures exact { AnswersField P.rules (required_field numbered) octets.now (seen result) }
         ensures gives { type_gives octets.now (seen result) };
 
-    /// The grammar is lawful, and strict elements have one of the tag numbers.
+    /// The grammar is lawful, and strict elements have one of the tags.
     ghost lawful_type: { IsLawfulNumbered Self.numbered };
 }
 
@@ -64,7 +64,7 @@ pub trait ReadsTypeBy<'a, K, P: ReadsBy>: Sized {
 
     /// `is_left_out`.
     fn left_out_by_kind(octets: &'a [u8]) -> bool
-        ensures { IsTrue result ↔ left_out_among numbered_by_kind.numbers P.rules octets.now };
+        ensures { IsTrue result ↔ left_out_among numbered_by_kind.tags P.rules octets.now };
 
     /// `read_type`.
     fn read_by_kind(alloc: Global, octets: &'a [u8]) -> ParseResult<'a, Self, Error>
@@ -112,27 +112,27 @@ pub trait LeafField: HasKind<Kind = ElementKind> {}
 
 /// Whether an optional field of the type is left out of the octets, by DER.
 #[inline(always)]
-pub(crate) fn left_out_by_der<T: ToldByNumber>(octets: &[u8]) -> bool
-    ensures { IsTrue result ↔ left_out_among T.numbers by_der octets.now }
+pub(crate) fn left_out_by_der<T: ToldByTag>(octets: &[u8]) -> bool
+    ensures { IsTrue result ↔ left_out_among T.tags by_der octets.now }
 {
     is_left_out::<T>(octets, header_by_der(octets))
 }
 
 /// The same by BER.
 #[inline(always)]
-pub(crate) fn left_out_by_ber<T: ToldByNumber>(octets: &[u8]) -> bool
-    ensures { IsTrue result ↔ left_out_among T.numbers by_ber octets.now }
+pub(crate) fn left_out_by_ber<T: ToldByTag>(octets: &[u8]) -> bool
+    ensures { IsTrue result ↔ left_out_among T.tags by_ber octets.now }
 {
     is_left_out::<T>(octets, header_by_ber(octets))
 }
 
 /// A type by DER, in the words of its field.
 #[inline(always)]
-pub(crate) fn type_by_der<'a, T: LawfulDer<'a, Error> + ToldByNumber>(
+pub(crate) fn type_by_der<'a, T: LawfulDer<'a, Error> + ToldByTag>(
     alloc: Global,
     octets: &'a [u8],
 ) -> ParseResult<'a, T, Error>
-    ensures exact { AnswersField by_der (item_field (among T.numbers) T.grammar) octets.now
+    ensures exact { AnswersField by_der (item_field (among T.tags) T.grammar) octets.now
         (seen result) }
     ensures gives { T.der_gives octets.now (seen result) }
 {
@@ -141,24 +141,23 @@ pub(crate) fn type_by_der<'a, T: LawfulDer<'a, Error> + ToldByNumber>(
 
 /// The same by BER.
 #[inline(always)]
-pub(crate) fn type_by_ber<'a, T: LawfulBer<'a, Error> + ToldByNumber>(
+pub(crate) fn type_by_ber<'a, T: LawfulBer<'a, Error> + ToldByTag>(
     alloc: Global,
     octets: &'a [u8],
 ) -> ParseResult<'a, T, Error>
-    ensures exact { AnswersField by_ber (item_field (among T.numbers) T.grammar) octets.now
+    ensures exact { AnswersField by_ber (item_field (among T.tags) T.grammar) octets.now
         (seen result) }
     ensures gives { T.ber_gives octets.now (seen result) }
 {
     T::from_ber(alloc, octets)
 }
 
-impl<'a, K: FieldsByLaws, T: LawfulDer<'a, Error> + ToldByNumber> ReadsTypeBy<'a, K, DerParser>
-    for T {
-    ghost numbered_by_kind = { record { numbers = T.numbers; grammar = T.grammar } };
+impl<'a, K: FieldsByLaws, T: LawfulDer<'a, Error> + ToldByTag> ReadsTypeBy<'a, K, DerParser> for T {
+    ghost numbered_by_kind = { record { tags = T.tags; grammar = T.grammar } };
 
     ghost type_gives_by_kind = { T.der_gives };
 
-    ghost lawful_numbers = { lawful_under T.numbers T.grammar T.lawful_item T.told_by_number };
+    ghost lawful_numbers = { lawful_under T.tags T.grammar T.lawful_item T.told_by_tag };
 
     #[inline(always)]
     fn left_out_by_kind(octets: &'a [u8]) -> bool {
@@ -171,13 +170,12 @@ impl<'a, K: FieldsByLaws, T: LawfulDer<'a, Error> + ToldByNumber> ReadsTypeBy<'a
     }
 }
 
-impl<'a, K: FieldsByLaws, T: LawfulBer<'a, Error> + ToldByNumber> ReadsTypeBy<'a, K, BerParser>
-    for T {
-    ghost numbered_by_kind = { record { numbers = T.numbers; grammar = T.grammar } };
+impl<'a, K: FieldsByLaws, T: LawfulBer<'a, Error> + ToldByTag> ReadsTypeBy<'a, K, BerParser> for T {
+    ghost numbered_by_kind = { record { tags = T.tags; grammar = T.grammar } };
 
     ghost type_gives_by_kind = { T.ber_gives };
 
-    ghost lawful_numbers = { lawful_under T.numbers T.grammar T.lawful_item T.told_by_number };
+    ghost lawful_numbers = { lawful_under T.tags T.grammar T.lawful_item T.told_by_tag };
 
     #[inline(always)]
     fn left_out_by_kind(octets: &'a [u8]) -> bool {
@@ -192,13 +190,13 @@ impl<'a, K: FieldsByLaws, T: LawfulBer<'a, Error> + ToldByNumber> ReadsTypeBy<'a
 
 impl<'a, T> ReadsTypeBy<'a, ElementKind, DerParser> for T
 where
-    T: LeafField + LawfulDer<'a, Error> + ToldByNumber,
+    T: LeafField + LawfulDer<'a, Error> + ToldByTag,
 {
-    ghost numbered_by_kind = { record { numbers = T.numbers; grammar = T.grammar } };
+    ghost numbered_by_kind = { record { tags = T.tags; grammar = T.grammar } };
 
     ghost type_gives_by_kind = { T.der_gives };
 
-    ghost lawful_numbers = { lawful_under T.numbers T.grammar T.lawful_item T.told_by_number };
+    ghost lawful_numbers = { lawful_under T.tags T.grammar T.lawful_item T.told_by_tag };
 
     #[inline(always)]
     fn left_out_by_kind(octets: &'a [u8]) -> bool {
@@ -213,13 +211,13 @@ where
 
 impl<'a, T> ReadsTypeBy<'a, ElementKind, BerParser> for T
 where
-    T: LeafField + LawfulBer<'a, Error> + ToldByNumber,
+    T: LeafField + LawfulBer<'a, Error> + ToldByTag,
 {
-    ghost numbered_by_kind = { record { numbers = T.numbers; grammar = T.grammar } };
+    ghost numbered_by_kind = { record { tags = T.tags; grammar = T.grammar } };
 
     ghost type_gives_by_kind = { T.ber_gives };
 
-    ghost lawful_numbers = { lawful_under T.numbers T.grammar T.lawful_item T.told_by_number };
+    ghost lawful_numbers = { lawful_under T.tags T.grammar T.lawful_item T.told_by_tag };
 
     #[inline(always)]
     fn left_out_by_kind(octets: &'a [u8]) -> bool {

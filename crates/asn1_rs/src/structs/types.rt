@@ -1,5 +1,5 @@
 //! Which types may be fields of structs. They are the leaf types of the library, lists, values under tags, and structs,
-//! and choices by an impl of their authors. What looks at no tag number is an element of any type or a value with the
+//! and choices by an impl of their authors. What looks at no tag is an element of any type or a value with the
 //! header of its tag (`TaggedParser`). It is a field where no field before it may be left out, or as the last one where
 //! it may be left out itself. A list, a set or an explicit tag may hold such items too. Under an implicit tag of a
 //! header the value is of a type that takes each class.

@@ -81,7 +81,7 @@ abbrev pub refined_type : {S T : Type 0} → (T → S) → (S → Bool) → Lawf
 refined_type held keeps T = record {
   class = T.class;
   number = T.number;
-  numbers = T.numbers;
+  tags = T.tags;
   single = T.single;
   grammar = refined_grammar held keeps T.grammar;
   writing = inner_writing held T.writing;

@@ -194,7 +194,7 @@ abbrev pub type_of_signed : {S T : Type 0} → (S → Any) → (S → T) → Law
 type_of_signed element inner T = record {
   class = T.class;
   number = T.number;
-  numbers = T.numbers;
+  tags = T.tags;
   single = T.single;
   grammar = signed_grammar element inner T.grammar;
   writing = signed_writing element;

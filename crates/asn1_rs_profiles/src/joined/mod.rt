@@ -8,6 +8,7 @@ mod pieces;
 mod reading;
 
 use asn1_rs::author::{ElementKind, HasKind, LeafField};
+use asn1_rs::{Error, ToStatic};
 pub use kinds::{JoinedKind, OctetKind};
 use std::alloc::Global;
 use std::borrow::CowSlice;
@@ -70,3 +71,17 @@ impl<K> HasKind for Joined<'_, K> {
 }
 
 impl<K> LeafField for Joined<'_, K> {}
+
+/// The copy owns its octets.
+impl<K: 'static> ToStatic for Joined<'_, K> {
+    type Owned = Joined<'static, K>;
+
+    ghost copies = { λ source copy. octets_of_joined copy ≡ octets_of_joined source };
+
+    fn to_static(&self, alloc: Global) -> Result<Joined<'static, K>, Error> {
+        Ok(Joined {
+            octets: self.octets.to_static(alloc)?,
+            kind: PhantomData,
+        })
+    }
+}

@@ -11,12 +11,13 @@ use crate::refined::reading::RefinedReader;
 use crate::refined::{LawfulProperty, Property, Refined, RefinedKind};
 use asn1_rs::author::{
     AlwaysDerBy, FieldsByLaws, KeyType, LawfulBodyBy, LawfulCheckBy, LawfulDerBy, LawfulType,
+    ToldByTag, ToldByTagBy,
 };
 use asn1_rs::laws::{
     AlwaysDer, Grammar, LawfulBody, LawfulCheck, LawfulDer, LawfulItem, LawfulMember, LawfulTagged,
     LawfulWrite, TakesClass,
 };
-use asn1_rs::{Error, FromAny, FromDer, Tagged};
+use asn1_rs::{Class, Error, FromAny, FromDer, Tag, Tagged};
 
 impl<T: Grammar, P: Property<T>> Grammar for Refined<T, P> {
     ghost grammar = { refined_grammar (λ x. x.value) P.keeps T.grammar };
@@ -87,6 +88,16 @@ impl<T: AlwaysDer, P: Property<T>> AlwaysDerBy<RefinedKind> for Refined<T, P> {
 }
 
 impl FieldsByLaws for RefinedKind {}
+
+impl<T: ToldByTag, P: Property<T>> ToldByTagBy<RefinedKind> for Refined<T, P> {
+    ghost tags_by_kind = { T.tags };
+
+    fn has_tag_by_kind(class: Class, tag: Tag) -> bool {
+        T::has_tag(class, tag)
+    }
+
+    ghost told_by_kind = { λ v i c f. T.told_by_tag v i c f.0 };
+}
 
 impl<T: LawfulType, P: Property<T>> LawfulType for Refined<T, P> {
     ghost type_laws = { refined_type (λ x. x.value) P.keeps T.type_laws };

@@ -5,6 +5,7 @@
 ghost use Rattle.std.specs.Prelude.{◌≡◌, Bool, IsTrue, false, MatchResult};
 ghost use Rattle.asn1_rs_profiles.specs.Refined.{GoesByValue, IsOutside};
 
+mod copying;
 mod integers;
 mod joined;
 mod laws;

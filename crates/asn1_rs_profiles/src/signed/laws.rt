@@ -1,6 +1,7 @@
 //! The laws of such values, from those of the value that was read.
 ghost use Rattle.std.specs.Prelude.{◌≡◌, ℕ, List};
-ghost use Rattle.asn1_rs.specs.Structs.{is_one_of};
+ghost use Rattle.asn1_headers.specs.Class.{class_number};
+ghost use Rattle.asn1_rs.specs.Structs.{is_a_tag};
 ghost use Rattle.asn1_rs_profiles.specs.Signed.{SignedReads, SignedConverts, SignedWord};
 ghost use Rattle.asn1_rs_profiles.specs.declared.signed.Signed.{Signed};
 ghost use Rattle.asn1_rs_profiles.specs.Signed.Held.{element_in, octets_in, said_in, grammar_of_signed, type_signed};
@@ -8,10 +9,10 @@ ghost use Rattle.asn1_rs_profiles.specs.Signed.Held.{value_in};
 ghost use Rattle.asn1_rs_profiles.specs.Signed.Laws.{signed_exact, signed_grammar_lawful, signed_no_memory};
 ghost use Rattle.asn1_rs_profiles.specs.Signed.Laws.{signed_takes, signed_takes_no_memory, signed_written};
 
-use crate::signed::Signed;
-use asn1_rs::author::{LawfulType, ToldByNumber};
+use crate::signed::{Signed, SignedKind};
+use asn1_rs::author::{LawfulType, ToldByTag, ToldByTagBy};
 use asn1_rs::laws::{Grammar, LawfulBody, LawfulCheck, LawfulDer, LawfulItem, LawfulWrite};
-use asn1_rs::{Error, Tag};
+use asn1_rs::{Class, Error, Tag};
 
 impl<T: Grammar> Grammar for Signed<'_, T> {
     ghost grammar = { grammar_of_signed T.grammar };
@@ -50,16 +51,16 @@ impl<T: LawfulItem> LawfulWrite for Signed<'_, T> {
     ghost lawful_writing = { signed_written element_in value_in T.grammar T.lawful_item };
 }
 
-impl<T: ToldByNumber> ToldByNumber for Signed<'_, T> {
-    ghost numbers = { T.numbers };
+impl<T: ToldByTag> ToldByTagBy<SignedKind> for Signed<'_, T> {
+    ghost tags_by_kind = { T.tags };
 
-    fn has_number(tag: Tag) -> bool
-        ensures { result ≡ is_one_of tag.0 T.numbers }
+    fn has_tag_by_kind(class: Class, tag: Tag) -> bool
+        ensures { result ≡ is_a_tag (class_number class) tag.0 T.tags }
     {
-        T::has_number(tag)
+        T::has_tag(class, tag)
     }
 
-    ghost told_by_number = { λ v i c f. T.told_by_number v.1 i c f.form };
+    ghost told_by_kind = { λ v i c f. T.told_by_tag v.1 i c f.form };
 }
 
 impl<T: LawfulType> LawfulType for Signed<'_, T> {

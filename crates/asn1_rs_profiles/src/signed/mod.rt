@@ -1,16 +1,18 @@
 //! Values that keep the octets of their element, since a signature is of octets.
 ghost use Rattle.std.specs.Prelude.{◌≡◌};
 ghost use Rattle.std.specs.Cow.{cow_slice_items};
+ghost use Rattle.asn1_rs.specs.Any.Kept.{as_element};
 ghost use Rattle.asn1_rs.specs.Any.Writing.{element_writing};
 ghost use Rattle.asn1_rs.specs.ToDer.{whole_octets};
 
+mod copying;
 pub(crate) mod laws;
 mod reading;
 mod writing;
 
 use asn1_rs::author::{FieldsByLaws, HasKind};
 use asn1_rs::laws::AlwaysDer;
-use asn1_rs::{Any, Class, Header, SerializeResult, Tag, strict_vec};
+use asn1_rs::{Any, Class, Header, KeptAny, SerializeResult, Tag, strict_vec};
 use std::alloc::Global;
 use std::borrow::CowSlice;
 
@@ -21,20 +23,22 @@ use std::borrow::CowSlice;
 /// written again these octets are as they were, also where the value would be written otherwise.
 ///
 /// By DER the octets are lent by the input. By BER they are copied, with the shortest length; the contents octets stay.
+/// A copy by `ToStatic` owns them.
 ///
 /// It is a field of structs, an optional one too, an item of lists, and stands under explicit tags. Under an implicit
 /// tag the input has other octets: `Signed<'a, TaggedImplicit<T, Error, 0>>` keeps them.
 #[derive(Debug, Drop)]
 pub struct Signed<'a, T> {
-    element: Any<'a>,
+    element: KeptAny<'a>,
     octets: CowSlice<'a, u8, Global>,
     value: T,
-    ghost stand: { cow_slice_items octets ≡ whole_octets element_writing element },
+    ghost stand: { cow_slice_items octets ≡ whole_octets element_writing (as_element element) },
 }
 
 impl<'a, T> Signed<'a, T> {
     ghost use Rattle.std.specs.Prelude.{MatchResult};
     ghost use Rattle.asn1_headers.specs.Writer.{IsMemoryOrLength};
+    ghost use Rattle.asn1_rs.specs.Any.Kept.{as_element};
     ghost use Rattle.asn1_rs_profiles.specs.Signed.Held.{element_in, octets_in, octets_under, value_in};
 
     /// The octets of the element, from its tag to its last contents octet.
@@ -61,8 +65,8 @@ impl<'a, T> Signed<'a, T> {
     }
 
     /// The element.
-    pub fn element(&self) -> &Any<'a>
-        ensures { result.now ≡ element_in self.now }
+    pub fn element(&self) -> &KeptAny<'a>
+        ensures { as_element result.now ≡ element_in self.now }
     {
         &self.element
     }
@@ -77,7 +81,7 @@ impl<'a, T> Signed<'a, T> {
         let constructed = self.element.header.constructed();
         let length = self.element.header.length();
         let header = Header::new(Class::Universal, constructed, tag, length);
-        let element = Any::new(header, self.element.content);
+        let element = Any::new(header, self.element.content.as_slice());
         element.is_der();
         strict_vec(alloc, &element)
     }

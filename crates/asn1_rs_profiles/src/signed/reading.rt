@@ -9,7 +9,9 @@ ghost use Rattle.asn1_rs_profiles.specs.Signed.Held.{element_in, value_in};
 
 use crate::signed::Signed;
 use asn1_rs::laws::{LawfulDer, any_is_the_element, elements_by_der_are_written_again};
-use asn1_rs::{Any, CheckDerConstraints, Error, FromAny, FromDer, Header, ParseResult, ToDer};
+use asn1_rs::{
+    Any, CheckDerConstraints, Error, FromAny, FromDer, Header, KeptAny, ParseResult, ToDer,
+};
 use std::alloc::Global;
 use std::borrow::CowSlice;
 
@@ -46,7 +48,7 @@ impl<'a, T: LawfulDer<'a, Error> + Drop> FromDer<'a, Error> for Signed<'a, T> {
                     Ok((
                         rest,
                         Signed {
-                            element,
+                            element: KeptAny::from(element),
                             octets,
                             value,
                         },
@@ -84,7 +86,7 @@ impl<'a, T: FromAny<'a, Error = Error> + Drop> FromAny<'a> for Signed<'a, T> {
         };
         match element.to_der_vec(alloc) {
             Ok(octets) => Ok(Signed {
-                element,
+                element: KeptAny::from(element),
                 octets: CowSlice::Owned(octets),
                 value,
             }),

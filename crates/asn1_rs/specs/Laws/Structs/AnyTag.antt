@@ -1,4 +1,4 @@
--- Readers of fields that look at no tag number are exact. So are those of values with the header of their tag, alone
+-- Readers of fields that look at no tag are exact. So are those of values with the header of their tag, alone
 -- and where they may be left out at the end.
 use Rattle.std.specs.Prelude.{◌≡◌, ℕ, ◌<◌, ◌^◌, false, List, Option, Result, Err, IfErr}
 use Rattle.x690.specs.Octets.{IsOctets}
@@ -29,7 +29,7 @@ use Rattle.asn1_rs.specs.Laws.Tagged.Parser.{whole_parser_no_memory, checked_exa
 use Rattle.asn1_rs.specs.Laws.Tagged.Parser.{implicit_parser_exact, implicit_parser_no_memory}
 use Rattle.asn1_rs.specs.Optional.{IsAtEnd, OptionGives}
 use Rattle.asn1_rs.specs.Structs.{EncodingRules, by_der, by_ber, words_by, IsTruncatedBy}
-use Rattle.asn1_rs.specs.Structs.{any_number, item_field, left_out_at_end, optional_field}
+use Rattle.asn1_rs.specs.Structs.{any_tag, item_field, left_out_at_end, optional_field}
 use Rattle.asn1_rs.specs.Structs.Data.{AnswersField}
 use Rattle.asn1_rs.specs.Tagged.{ThenByDer, ThenByBer}
 use Rattle.asn1_rs.specs.Tagged.Headed.{CheckedBody, explicit_headed, implicit_headed}
@@ -44,10 +44,10 @@ Reads S = List ℕ → Result (List ℕ × S) (Refusal Error) → Type 0
 pub record AnswersAnyTag {S : Type 0} (rules : EncodingRules) (G : ItemGrammar S)
     (reads : List ℕ → Result (List ℕ × S) (Refusal Error) → Type 0) : Type 0 where
   pub alone : (octets : List ℕ) (answer : Result (List ℕ × S) (Refusal Error)) → reads octets answer →
-      AnswersField rules (item_field any_number G) octets answer
+      AnswersField rules (item_field any_tag G) octets answer
   pub or_none : (octets : List ℕ) (answer : Result (List ℕ × Option S) (Refusal Error)) →
       OptionGives IsAtEnd reads octets answer →
-      AnswersField rules (optional_field any_number left_out_at_end G) octets answer
+      AnswersField rules (optional_field any_tag left_out_at_end G) octets answer
 
 -- the error that is answered is the one that was met
 abbrev Same : Error → Error → Type 0
@@ -68,8 +68,8 @@ IsNeverOom {S} G reads = G.allocates ≡ false → (octets : List ℕ) (answer :
 any_tag_answers : {S : Type 0} (rules : EncodingRules) (G : ItemGrammar S) → IsLawfulItem G → (reads : Reads S) →
     IsExact rules G reads → IsNeverOom G reads → AnswersAnyTag rules G reads
 any_tag_answers rules G l reads exact never_oom = record {
-  alone = item_answers rules G l reads exact never_oom any_number;
-  or_none = option_answers rules G l reads exact never_oom any_number left_out_at_end;
+  alone = item_answers rules G l reads exact never_oom any_tag;
+  or_none = option_answers rules G l reads exact never_oom any_tag left_out_at_end;
 }
 
 -- the identifier of the header in hand

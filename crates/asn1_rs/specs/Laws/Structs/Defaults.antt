@@ -1,6 +1,6 @@
 -- Fields with a default are lawful, and their readers are exact.
 use Rattle.std.proofs.Common.{◌≡◌, ◌≢◌, ◌∙◌, ap, sym, subst, refl, ℕ, ◌^◌, ◌<◌, inl, inr, Bool, true, false, List, []}
-use Rattle.std.proofs.Common.{◌∷◌, ◌++◌, length, Option, None, Some, ◌⊎◌}
+use Rattle.std.proofs.Common.{◌++◌, length, Option, None, Some, ◌⊎◌}
 use Rattle.std.specs.Prelude.{Result, Ok, Err, IfErr, IsTrue, ◌↔◌}
 use Rattle.std.specs.Option.{option_map}
 use mathlib.Core.Logic.{∥∥₁_map}
@@ -9,28 +9,28 @@ use Rattle.asn1_headers.specs.declared.error.Err.{Err as Refusal}
 use Rattle.asn1_headers.specs.declared.error.Error.{Error}
 use Rattle.asn1_headers.specs.Answers.{IsOther}
 use Rattle.asn1_headers.specs.Error.{ErrorIs}
-use Rattle.asn1_rs.specs.Grammar.{FormNumber}
 use Rattle.asn1_rs.specs.Grammar.Item.{ItemGrammar, IsLawfulItem, IsLawfulWriting}
 use Rattle.asn1_rs.specs.Optional.{InSome, OptionGives, in_some, option_writing}
 use Rattle.asn1_rs.specs.ToDer.{Writing, whole_octets}
 use Rattle.asn1_rs.specs.Structs.{EncodingRules, header_rule, FieldGrammar, item_field, optional_field}
-use Rattle.asn1_rs.specs.Structs.{OptionStrict, BeginsWithOneOf, BeginsApart, ReadsField, among, left_out_by}
+use Rattle.asn1_rs.specs.Structs.{OptionStrict, BeginsWithOneOf, BeginsApart, FormTags, ReadsField, TagClass, among}
+use Rattle.asn1_rs.specs.Structs.{left_out_among}
 use Rattle.asn1_rs.specs.Structs.Defaults.{default_field, DefaultTakes, DefaultStrict, unless_default, default_writing}
 use Rattle.asn1_rs.specs.Structs.Defaults.{DefaultGives, OrDefault}
-use Rattle.asn1_rs.specs.Laws.Structs.Fields.{IsLawfulField, IsLawfulPut, optional_by_lawful, optional_put}
+use Rattle.asn1_rs.specs.Laws.Structs.Fields.{IsLawfulField, IsLawfulPut, optional_field_lawful, optional_put}
 
-module _ {S W : Type 0} (inner : W → S) (number : ℕ) (G : ItemGrammar S) (default : G.Value) where
+module _ {S W : Type 0} (inner : W → S) (tags : List (TagClass × ℕ)) (G : ItemGrammar S) (default : G.Value) where
   -- the field, and the optional one of the same type
   abbrev F : FieldGrammar W
-  F = default_field inner number G default
+  F = default_field inner tags G default
 
   abbrev Held : FieldGrammar (Option S)
-  Held = optional_field (among (number ∷ [])) (left_out_by number) G
+  Held = optional_field (among tags) (left_out_among tags) G
 
-  module _ (l : IsLawfulItem G) (numbered : FormNumber G.Form number) (is_value : G.IsValue default) where
+  module _ (l : IsLawfulItem G) (tagged : FormTags G.Form tags) (is_value : G.IsValue default) where
     -- Where the field is left out it is as the optional one with none, and else as that with the value.
     held : IsLawfulField Held
-    held = optional_by_lawful number G l numbered
+    held = optional_field_lawful tags G l tagged
 
     default_values : (rules : EncodingRules) (o : List ℕ) (v : G.Value) (r : List ℕ) → F.Takes rules o v r → G.IsValue v
     default_values rules o v r (inl t) = subst G.IsValue (sym t.1) is_value
@@ -72,12 +72,12 @@ module _ {S W : Type 0} (inner : W → S) (number : ℕ) (G : ItemGrammar S) (de
     default_strict_octets v o (inr s) = held.strict_octets (Some v) o s.1
 
     default_begins : (rules : EncodingRules) (v : G.Value) (o rest : List ℕ) → F.Strict v o →
-        ((o ≡ []) × (true ≡ true)) ⊎ BeginsWithOneOf (header_rule rules) F.numbers (o ++ rest)
+        ((o ≡ []) × (true ≡ true)) ⊎ BeginsWithOneOf (header_rule rules) F.tags (o ++ rest)
     default_begins rules v o rest (inl s) = held.begins rules None o rest s.1
     default_begins rules v o rest (inr s) = held.begins rules (Some v) o rest s.1
 
     default_takes : (rules : EncodingRules) (v : G.Value) (o rest : List ℕ) → F.Strict v o →
-        (true ≡ true → BeginsApart (header_rule rules) F.numbers rest) → F.Takes rules (o ++ rest) v rest
+        (true ≡ true → BeginsApart (header_rule rules) F.tags rest) → F.Takes rules (o ++ rest) v rest
     default_takes rules v o rest (inl s) apart =
         let t = held.strict_takes rules None o rest s.1 apart in inl (t.0, s.0, t.1)
     default_takes rules v o rest (inr s) apart = inr (held.strict_takes rules (Some v) o rest s.1 apart)
@@ -163,7 +163,7 @@ module _ {S W : Type 0} (inner : W → S) (number : ℕ) (G : ItemGrammar S) (de
 
     module _ (l : IsLawfulItem G) (w : Writing S) (k : IsLawfulWriting G w) where
       put : IsLawfulPut Held (option_writing w)
-      put = optional_put G l w k (among (number ∷ [])) (left_out_by number)
+      put = optional_put G l w k (among tags) (left_out_among tags)
 
       -- What is written of a field with a default is lawful where two things hold. That of its type is, and the default
       -- is told from the other values.
@@ -182,9 +182,9 @@ module _ {S W : Type 0} (inner : W → S) (number : ℕ) (G : ItemGrammar S) (de
 
   module _ (rules : EncodingRules) (reads : List ℕ → Result (List ℕ × S) (Refusal Error) → Type 0)
       (item : (octets : List ℕ) (answer : Result (List ℕ × S) (Refusal Error)) → IsOctets octets →
-      reads octets answer → ReadsField rules (item_field (among (number ∷ [])) G) octets answer) where
-    refused : (octets : List ℕ) (r : Refusal Error) → (left_out_by number rules octets → ⊥) →
-        ReadsField {S = S} rules (item_field (among (number ∷ [])) G) octets (Err r) →
+      reads octets answer → ReadsField rules (item_field (among tags) G) octets answer) where
+    refused : (octets : List ℕ) (r : Refusal Error) → (left_out_among tags rules octets → ⊥) →
+        ReadsField {S = S} rules (item_field (among tags) G) octets (Err r) →
         ReadsField {S = W} rules F octets (Err r)
     refused octets r stays (inl m) = inl m
     refused octets r stays (inr none) = inr nothing
@@ -195,7 +195,7 @@ module _ {S W : Type 0} (inner : W → S) (number : ℕ) (G : ItemGrammar S) (de
 
     -- The reader of a field with a default is exact where that of its type is.
     pub default_reads : (octets : List ℕ) (answer : Result (List ℕ × W) (Refusal Error)) → IsOctets octets →
-        DefaultGives inner G.value default (left_out_by number rules) reads octets answer →
+        DefaultGives inner G.value default (left_out_among tags rules) reads octets answer →
         ReadsField rules F octets answer
     default_reads octets (Ok x) k (inl g) = inl g
     default_reads octets (Ok x) k (inr g) = inr (g.0, item octets (Ok (x.0, inner x.1)) k g.1)

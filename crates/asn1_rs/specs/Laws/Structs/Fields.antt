@@ -1,7 +1,7 @@
 -- Fields of lawful types are lawful, and their readers are exact.
 use Rattle.std.proofs.Common.{◌≡◌, ◌≢◌, ◌∙◌, ap, sym, subst, refl, ℕ, ◌^◌, ◌<◌, inl, inr, Bool, true, false, List, []}
 use Rattle.std.proofs.Common.{◌∷◌, ◌++◌, ◌+◌, ◌≤◌, arith, length, length-append, append_assoc, Option, None, Some, ◌⊎◌}
-use Rattle.std.specs.Prelude.{Result, Ok, Err, IfErr, IsTrue, nat_eq}
+use Rattle.std.specs.Prelude.{◌&&◌, ◌||◌, Result, Ok, Err, IfErr, nat_eq}
 use Rattle.std.proofs.lemmas.Bool.{eq-eqb}
 use Rattle.std.proofs.lemmas.List.{append_cancel_left}
 use Rattle.std.specs.Option.{option_map}
@@ -20,23 +20,22 @@ use Rattle.asn1_headers.specs.declared.error.Err.{Err as Refusal}
 use Rattle.asn1_headers.specs.declared.error.Error.{Error}
 use Rattle.asn1_headers.specs.Answers.{HasPrefix, Exactly, TellsMemory, IsOther}
 use Rattle.asn1_headers.specs.Error.{ErrorIs}
-use Rattle.asn1_rs.specs.Grammar.{FormNumber}
+use Rattle.asn1_rs.specs.Grammar.{FormClass, FormNumber}
 use Rattle.asn1_rs.specs.Grammar.Form.{IsStrict}
 use Rattle.asn1_rs.specs.Grammar.Item.{ItemGrammar, IsLawfulItem, IsLawfulWriting, ber_words}
 use Rattle.asn1_rs.specs.Laws.Forms.{strict_written, both_by_value, der_strict}
-use Rattle.asn1_rs.specs.Laws.Optional.{not_left_out}
 use Rattle.asn1_rs.specs.Laws.Readers.{none_now}
 use Rattle.asn1_rs.specs.Laws.Words.{strict_element, one_strict, ber_values, ber_one, strict_ber}
-use Rattle.asn1_rs.specs.Optional.{InSome, IsLeftOut, OptionGives, option_writing, in_some}
+use Rattle.asn1_rs.specs.Optional.{InSome, OptionGives, option_writing, in_some}
 use Rattle.asn1_rs.specs.ToDer.{Writing, IsWritable, whole_octets}
 use Rattle.asn1_rs.specs.Structs.{EncodingRules, by_der, by_ber, header_rule, words_by, IsTruncatedBy, FieldGrammar, item_field}
-use Rattle.asn1_rs.specs.Structs.{optional_field, OptionTakes, OptionStrict, BeginsWithNumber, ReadsField, Numbers, left_out_by}
-use Rattle.asn1_rs.specs.Structs.{any_number, among, is_one_of, BeginsWithOneOf, BeginsApart, left_out_at_end, FormNumbers}
-use Rattle.asn1_rs.specs.Structs.{left_out_among}
+use Rattle.asn1_rs.specs.Structs.{optional_field, OptionTakes, OptionStrict, BeginsWithTag, ReadsField, FieldTags}
+use Rattle.asn1_rs.specs.Structs.{any_tag, among, is_a_tag, BeginsWithOneOf, BeginsApart, left_out_at_end, FormTags}
+use Rattle.asn1_rs.specs.Structs.{TagClass, left_out_among, one_class}
 
 -- Octets give one value and leave one rest. A value has one strict octets, and these are octets. They begin with one of
--- the tag numbers, or are none where the field may be left out. They are taken again, with their value, before each
--- rest. Those of an optional field are so before each rest that does not begin with one of its numbers.
+-- the tags, or are none where the field may be left out. They are taken again, with their value, before each rest.
+-- Those of an optional field are so before each rest that does not begin with one of its tags.
 pub record IsLawfulField {S : Type 0} (F : FieldGrammar S) : Type 0 where
   pub one_equality : IsSet F.Value
   pub values : (rules : EncodingRules) (o : List ℕ) (v : F.Value) (r : List ℕ) → F.Takes rules o v r → F.IsValue v
@@ -49,9 +48,9 @@ pub record IsLawfulField {S : Type 0} (F : FieldGrammar S) : Type 0 where
   pub strict_der : (v : F.Value) (o : List ℕ) → F.Strict v o → F.IsDer v
   pub strict_octets : (v : F.Value) (o : List ℕ) → F.Strict v o → IsOctets o
   pub begins : (rules : EncodingRules) (v : F.Value) (o rest : List ℕ) → F.Strict v o →
-      ((o ≡ []) × (F.optional ≡ true)) ⊎ BeginsWithOneOf (header_rule rules) F.numbers (o ++ rest)
+      ((o ≡ []) × (F.optional ≡ true)) ⊎ BeginsWithOneOf (header_rule rules) F.tags (o ++ rest)
   pub strict_takes : (rules : EncodingRules) (v : F.Value) (o rest : List ℕ) → F.Strict v o →
-      (F.optional ≡ true → BeginsApart (header_rule rules) F.numbers rest) → F.Takes rules (o ++ rest) v rest
+      (F.optional ≡ true → BeginsApart (header_rule rules) F.tags rest) → F.Takes rules (o ++ rest) v rest
 
 -- What is written of a field is told of each item, and follows from its value. It is the strict octets of a value that
 -- has such; and a value in DER form has such, where they fit in memory.
@@ -63,34 +62,15 @@ pub record IsLawfulPut {S : Type 0} (F : FieldGrammar S) (w : Writing S) : Type 
       ∥ F.Strict (F.value x) (whole_octets w x) ∥₁
   pub der_writable : (x : S) → F.IsDer (F.value x) → IsWritable w x
 
--- strict encodings begin with a header of one of these numbers, by both rules
-abbrev pub StrictBegins : {V : Type 0} → (V → Identifier → List ℕ → Type 0) → Numbers → Type 0
-StrictBegins {V} Form numbers = (rules : EncodingRules) (v : V) (o rest : List ℕ) → IsStrict Form v o →
-    BeginsWithOneOf (header_rule rules) numbers (o ++ rest)
+-- strict encodings begin with a header of one of these tags, by both rules
+abbrev pub StrictBegins : {V : Type 0} → (V → Identifier → List ℕ → Type 0) → FieldTags → Type 0
+StrictBegins {V} Form tags = (rules : EncodingRules) (v : V) (o rest : List ℕ) → IsStrict Form v o →
+    BeginsWithOneOf (header_rule rules) tags (o ++ rest)
 
 -- both rules allow strict headers
 pub allows_strict : (rules : EncodingRules) → AllowsStrict (header_rule rules)
 allows_strict by_der = der_allows_strict
 allows_strict by_ber = ber_allows_strict
-
--- the number of a header at the front is the only one
-is_the_only_one : (n m : ℕ) → is_one_of m (n ∷ []) ≡ false → m ≢ n
-is_the_only_one n m none same = let e : nat_eq n m ≡ true = eq-eqb n m (sym same) in
-    absurd (let t : is_one_of m (n ∷ []) ≡ true = rw e refl in let u : true ≡ false = sym t ∙ none in cc)
-
--- octets that begin with another number leave an optional field out
-apart_leaves_out : (rule : Rule) (n : ℕ) (octets : List ℕ) → BeginsApart rule (among (n ∷ [])) octets →
-    IsLeftOut rule n octets
-apart_leaves_out rule n octets (inl e) = inl e
-apart_leaves_out rule n octets (inr (m, begins, none)) = inr (record {
-  header = begins.header;
-  rest = begins.rest;
-  id = begins.id;
-  form = begins.form;
-  header_is = begins.header_is;
-  is = begins.is;
-  other = λ same. is_the_only_one n m none (sym begins.number_is ∙ same);
-})
 
 module _ {S : Type 0} (G : ItemGrammar S) (l : IsLawfulItem G) where
   -- The words of a lawful type by either rules.
@@ -130,9 +110,9 @@ module _ {S : Type 0} (G : ItemGrammar S) (l : IsLawfulItem G) where
       HasPrefix (words_by rules G) (o ++ rest) v rest
   strict_front rules v o rest s = record { word = o; fits = strict_word rules v o s; is = refl }
 
-  -- A field of a lawful type is lawful, if its strict encodings begin with one of its tag numbers.
-  pub item_lawful : (numbers : Numbers) → StrictBegins G.Form numbers → IsLawfulField (item_field numbers G)
-  item_lawful numbers begins = record {
+  -- A field of a lawful type is lawful, if its strict encodings begin with one of its tags.
+  pub item_lawful : (tags : FieldTags) → StrictBegins G.Form tags → IsLawfulField (item_field tags G)
+  item_lawful tags begins = record {
     one_equality = l.one_equality;
     values = λ rules o v r f. word_values rules f.word v f.fits;
     one = front_one;
@@ -147,12 +127,12 @@ module _ {S : Type 0} (G : ItemGrammar S) (l : IsLawfulItem G) where
 
   -- Of an optional one each law is one of the two values.
 
-  module _ (numbers : Numbers) (LeftOut : EncodingRules → List ℕ → Type 0) where
+  module _ (tags : FieldTags) (LeftOut : EncodingRules → List ℕ → Type 0) where
     abbrev Takes : EncodingRules → List ℕ → Option G.Value → List ℕ → Type 0
     Takes rules = OptionTakes (LeftOut rules) (words_by rules G)
 
     option_values : (rules : EncodingRules) (o : List ℕ) (v : Option G.Value) (r : List ℕ) → Takes rules o v r →
-        (optional_field numbers LeftOut G).IsValue v
+        (optional_field tags LeftOut G).IsValue v
     option_values rules o None r t = tt
     option_values rules o (Some v) r t = word_values rules t.1.word v t.1.fits
 
@@ -175,12 +155,12 @@ module _ {S : Type 0} (G : ItemGrammar S) (l : IsLawfulItem G) where
     option_strict_one (Some v) o p s t = one_strict G.Form l.one_form v o p s t
 
     option_strict_values : (v : Option G.Value) (o : List ℕ) → OptionStrict G.Form v o →
-        (optional_field numbers LeftOut G).IsValue v
+        (optional_field tags LeftOut G).IsValue v
     option_strict_values None o s = tt
     option_strict_values (Some v) o s = l.form_values v s.id s.content s.form
 
     option_strict_der : (v : Option G.Value) (o : List ℕ) → OptionStrict G.Form v o →
-        (optional_field numbers LeftOut G).IsDer v
+        (optional_field tags LeftOut G).IsDer v
     option_strict_der None o s = tt
     option_strict_der (Some v) o s = l.form_der v s.id s.content s.form
 
@@ -191,13 +171,13 @@ module _ {S : Type 0} (G : ItemGrammar S) (l : IsLawfulItem G) where
     option_strict_octets None o s = no_octets o s
     option_strict_octets (Some v) o s = strict_are_octets v o s
 
-    module _ (begins : StrictBegins G.Form numbers)
+    module _ (begins : StrictBegins G.Form tags)
         (stays : (rules : EncodingRules) (v : G.Value) (o rest : List ℕ) → IsStrict G.Form v o →
         LeftOut rules (o ++ rest) → ⊥)
-        (leaves : (rules : EncodingRules) (rest : List ℕ) → BeginsApart (header_rule rules) numbers rest →
+        (leaves : (rules : EncodingRules) (rest : List ℕ) → BeginsApart (header_rule rules) tags rest →
         LeftOut rules rest) where
       option_begins : (rules : EncodingRules) (v : Option G.Value) (o rest : List ℕ) → OptionStrict G.Form v o →
-          ((o ≡ []) × (true ≡ true)) ⊎ BeginsWithOneOf (header_rule rules) numbers (o ++ rest)
+          ((o ≡ []) × (true ≡ true)) ⊎ BeginsWithOneOf (header_rule rules) tags (o ++ rest)
       option_begins rules None o rest s = inl (s, refl)
       option_begins rules (Some v) o rest s = inr (begins rules v o rest s)
 
@@ -209,8 +189,8 @@ module _ {S : Type 0} (G : ItemGrammar S) (l : IsLawfulItem G) where
       option_takes rules (Some v) o rest s out = (stays rules v o rest s, strict_front rules v o rest s)
 
       -- An optional field of a lawful type is lawful under two conditions. Its strict encodings do not say that it is
-      -- left out, and what begins with another number does.
-      pub option_lawful : IsLawfulField (optional_field numbers LeftOut G)
+      -- left out, and what begins with another tag does.
+      pub option_lawful : IsLawfulField (optional_field tags LeftOut G)
       option_lawful = record {
         one_equality = option_set l.one_equality;
         values = option_values;
@@ -231,8 +211,8 @@ module _ {S : Type 0} (G : ItemGrammar S) (l : IsLawfulItem G) where
     whole_by_value x y e = let s = k.by_value x y e in both_by_value s.1 s.2
 
     -- What is written of a field is lawful where that of its type is.
-    pub item_put : (numbers : Numbers) → IsLawfulPut (item_field numbers G) w
-    item_put numbers = record {
+    pub item_put : (tags : FieldTags) → IsLawfulPut (item_field tags G) w
+    item_put tags = record {
       tells_all = k.tells_all;
       by_value = whole_by_value;
       strict = λ x o s. strict_written G.value G.Form w k.form x o s;
@@ -268,9 +248,9 @@ module _ {S : Type 0} (G : ItemGrammar S) (l : IsLawfulItem G) where
     option_der_writable (Some x) d = k.der_writable x d
 
     -- And so is what is written of an optional field.
-    pub optional_put : (numbers : Numbers) (LeftOut : EncodingRules → List ℕ → Type 0) →
-        IsLawfulPut (optional_field numbers LeftOut G) (option_writing w)
-    optional_put numbers LeftOut = record {
+    pub optional_put : (tags : FieldTags) (LeftOut : EncodingRules → List ℕ → Type 0) →
+        IsLawfulPut (optional_field tags LeftOut G) (option_writing w)
+    optional_put tags LeftOut = record {
       tells_all = option_tells;
       by_value = option_by_value;
       strict = option_strict_put;
@@ -285,15 +265,15 @@ module _ {S : Type 0} (G : ItemGrammar S) (l : IsLawfulItem G) where
       reads octets answer → Exactly (IsTruncatedBy rules) (words_by rules G) G.value
       (TellsMemory G.allocates (λ (x y : Error). y ≡ x)) octets answer) where
     -- An exact reader of a type is an exact reader of its field.
-    pub item_reads : (numbers : Numbers) (octets : List ℕ) (answer : Result (List ℕ × S) (Refusal Error)) →
-        IsOctets octets → reads octets answer → ReadsField rules (item_field numbers G) octets answer
-    item_reads numbers octets (Ok x) k g = exact octets (Ok x) k g
-    item_reads numbers octets (Err r) k g = elim (exact octets (Err r) k g) [
+    pub item_reads : (tags : FieldTags) (octets : List ℕ) (answer : Result (List ℕ × S) (Refusal Error)) →
+        IsOctets octets → reads octets answer → ReadsField rules (item_field tags G) octets answer
+    item_reads tags octets (Ok x) k g = exact octets (Ok x) k g
+    item_reads tags octets (Err r) k g = elim (exact octets (Err r) k g) [
       | inl m ↦ inl m
       | inr n ↦ inr (λ v rest f. none_now (IsTruncatedBy rules octets) r (words_by rules G) octets n f.word rest v f.is f.fits)
     ]
 
-    module _ (numbers : Numbers) (LeftOut : EncodingRules → List ℕ → Type 0) where
+    module _ (tags : FieldTags) (LeftOut : EncodingRules → List ℕ → Type 0) where
       option_nothing : (octets : List ℕ) → (LeftOut rules octets → ⊥) →
           ((v : G.Value) (rest : List ℕ) → HasPrefix (words_by rules G) octets v rest → ⊥) →
           (v : Option G.Value) (rest : List ℕ) → OptionTakes (LeftOut rules) (words_by rules G) octets v rest → ⊥
@@ -301,8 +281,8 @@ module _ {S : Type 0} (G : ItemGrammar S) (l : IsLawfulItem G) where
       option_nothing octets stays none (Some v) rest t = none v rest t.1
 
       held_option : (octets : List ℕ) (its : Result (List ℕ × S) (Refusal Error)) → (LeftOut rules octets → ⊥) →
-          ReadsField rules (item_field numbers G) octets its →
-          ReadsField rules (optional_field numbers LeftOut G) octets (in_some its)
+          ReadsField rules (item_field tags G) octets its →
+          ReadsField rules (optional_field tags LeftOut G) octets (in_some its)
       held_option octets (Ok x) stays f = (stays, f)
       held_option octets (Err r) stays (inl m) = inl m
       held_option octets (Err r) stays (inr none) = inr (option_nothing octets stays none)
@@ -310,54 +290,64 @@ module _ {S : Type 0} (G : ItemGrammar S) (l : IsLawfulItem G) where
       -- And the reader of options over it one of its optional field.
       pub optional_reads : (octets : List ℕ) (answer : Result (List ℕ × Option S) (Refusal Error)) → IsOctets octets →
           OptionGives (LeftOut rules) reads octets answer →
-          ReadsField rules (optional_field numbers LeftOut G) octets answer
+          ReadsField rules (optional_field tags LeftOut G) octets answer
       optional_reads octets answer k (inl (out, e)) =
-          subst (ReadsField rules (optional_field numbers LeftOut G) octets) (sym e) (out, refl)
+          subst (ReadsField rules (optional_field tags LeftOut G) octets) (sym e) (out, refl)
       optional_reads octets answer k (inr (stays, (its, g, e))) =
-          subst (ReadsField rules (optional_field numbers LeftOut G) octets) (sym e)
-          (held_option octets its stays (item_reads numbers octets its k g))
+          subst (ReadsField rules (optional_field tags LeftOut G) octets) (sym e)
+          (held_option octets its stays (item_reads tags octets its k g))
 
 -- Headers at the front.
 
 -- one begins no empty octets
-pub begins_some : (rule : Rule) (n : ℕ) (octets : List ℕ) → BeginsWithNumber rule n octets → octets ≢ []
-begins_some rule n octets b e =
+pub begins_some : (rule : Rule) (class number : ℕ) (octets : List ℕ) → BeginsWithTag rule class number octets →
+    octets ≢ []
+begins_some rule class number octets b e =
     let two : 2 ≤ length b.header = header_two rule b.header b.id b.form b.header_is in
     let none : length b.header + length b.rest ≡ 0 = sym (length-append b.header b.rest) ∙ ap length (sym b.is ∙ e) in
     absurd (omega (arith, two, none))
 
--- and has one tag number
-pub begins_with_one : (rule : Rule) (n m : ℕ) (octets : List ℕ) → BeginsWithNumber rule n octets →
-    BeginsWithNumber rule m octets → n ≡ m
-begins_with_one rule n m octets b c =
+-- and has one class and one tag number
+pub begins_with_one : (rule : Rule) (class number other_class other : ℕ) (octets : List ℕ) →
+    BeginsWithTag rule class number octets → BeginsWithTag rule other_class other octets →
+    (class ≡ other_class) × (number ≡ other)
+begins_with_one rule class number other_class other octets b c =
     let u = header_unique rule rule b.header c.header b.rest c.rest b.id c.id b.form c.form b.header_is c.header_is
-    (sym b.is ∙ c.is) in
-    sym b.number_is ∙ ap (λ (i : Identifier). i.number) u.1 ∙ c.number_is
+    (sym b.is ∙ c.is) in (
+      sym b.class_is ∙ ap (λ (i : Identifier). i.class) u.1 ∙ c.class_is,
+      sym b.number_is ∙ ap (λ (i : Identifier). i.number) u.1 ∙ c.number_is,
+    )
 
--- one of one of these numbers begins nothing that begins with another
-pub not_apart : (rule : Rule) (n : ℕ) (numbers : List ℕ) (octets : List ℕ) → BeginsWithNumber rule n octets →
-    is_one_of n numbers ≡ true → BeginsApart rule (among numbers) octets → ⊥
-not_apart rule n numbers octets b own (inl none) = begins_some rule n octets b none
-not_apart rule n numbers octets b own (inr (m, c, other)) =
-    let t : is_one_of m numbers ≡ true =
-    subst (λ (z : ℕ). is_one_of z numbers ≡ true) (begins_with_one rule n m octets b c) own in
+-- one of one of these tags begins nothing that begins with another
+pub not_apart : (rule : Rule) (class number : ℕ) (tags : List (TagClass × ℕ)) (octets : List ℕ) →
+    BeginsWithTag rule class number octets → is_a_tag class number tags ≡ true →
+    BeginsApart rule (among tags) octets → ⊥
+not_apart rule class number tags octets b own (inl none) = begins_some rule class number octets b none
+not_apart rule class number tags octets b own (inr (c, n, d, other)) =
+    let same = begins_with_one rule class number c n octets b d in
+    let here : is_a_tag c number tags ≡ true =
+    subst (λ (z : ℕ). is_a_tag z number tags ≡ true) same.0 own in
+    let t : is_a_tag c n tags ≡ true = subst (λ (z : ℕ). is_a_tag c z tags ≡ true) same.1 here in
     absurd (let u : true ≡ false = sym t ∙ other in cc)
 
--- a number is the only one of its own
-is_own : (n m : ℕ) → n ≡ m → is_one_of m (n ∷ []) ≡ true
-is_own n m same = let e : nat_eq n m ≡ true = eq-eqb n m same in rw e refl
+-- both of two hold, or what follows
+both_or : (a b : Bool) → a ≡ true → b ≡ true → ((a && b) || false) ≡ true
+both_or true true p q = refl
+both_or true false p q = absurd (cc)
+both_or false b p q = absurd (cc)
 
--- strict parts of one tag number have one of it alone
-pub one_number : {V : Type 0} (Form : V → Identifier → List ℕ → Type 0) (number : ℕ) → FormNumber Form number →
-    FormNumbers Form (number ∷ [])
-one_number Form number numbered v i c f = is_own number i.number (sym (numbered v i c f))
+-- strict parts of one class and one tag number have this tag
+pub one_tag : {V : Type 0} (Form : V → Identifier → List ℕ → Type 0) (class number : ℕ) → FormClass Form class →
+    FormNumber Form number → FormTags Form ((one_class class, number) ∷ [])
+one_tag Form class number classed numbered v i c f = both_or (nat_eq class i.class) (nat_eq number i.number)
+    (eq-eqb class i.class (sym (classed v i c f))) (eq-eqb number i.number (sym (numbered v i c f)))
 
--- Fields of types with tag numbers, and of those that look at none.
+-- Fields of types with tags, and of those that look at none.
 
 module _ {S : Type 0} (G : ItemGrammar S) where
-  -- strict encodings begin with a header of their tag number
+  -- strict encodings begin with a header of their tag
   strict_header : (rules : EncodingRules) (v : G.Value) (o rest : List ℕ) (s : IsStrict G.Form v o) →
-      BeginsWithNumber (header_rule rules) s.id.number (o ++ rest)
+      BeginsWithTag (header_rule rules) s.id.class s.id.number (o ++ rest)
   strict_header rules v o rest s =
       let element = strict_element (header_rule rules) (allows_strict rules) G.Form v o s in record {
         header = element.header;
@@ -366,48 +356,35 @@ module _ {S : Type 0} (G : ItemGrammar S) where
         form = definite (length s.content);
         header_is = element.header_is;
         is = ap (λ (ys : List ℕ). ys ++ rest) element.is ∙ append_assoc element.header s.content rest;
+        class_is = refl;
         number_is = refl;
       }
 
-module _ {S : Type 0} (numbers : List ℕ) (G : ItemGrammar S) (l : IsLawfulItem G)
-    (numbered : FormNumbers G.Form numbers) where
-  -- which is among the numbers of the field
-  strict_begins : StrictBegins G.Form (among numbers)
+module _ {S : Type 0} (tags : List (TagClass × ℕ)) (G : ItemGrammar S) (l : IsLawfulItem G)
+    (tagged : FormTags G.Form tags) where
+  -- which is among the tags of the field
+  strict_begins : StrictBegins G.Form (among tags)
   strict_begins rules v o rest s =
-      (s.id.number, strict_header G rules v o rest s, numbered v s.id s.content s.form)
+      (s.id.class, s.id.number, strict_header G rules v o rest s, tagged v s.id s.content s.form)
 
   strict_stays : (rules : EncodingRules) (v : G.Value) (o rest : List ℕ) → IsStrict G.Form v o →
-      left_out_among numbers rules (o ++ rest) → ⊥
-  strict_stays rules v o rest s = not_apart (header_rule rules) s.id.number numbers (o ++ rest)
-      (strict_header G rules v o rest s) (numbered v s.id s.content s.form)
+      left_out_among tags rules (o ++ rest) → ⊥
+  strict_stays rules v o rest s = not_apart (header_rule rules) s.id.class s.id.number tags (o ++ rest)
+      (strict_header G rules v o rest s) (tagged v s.id s.content s.form)
 
-  -- A field of a lawful type with tag numbers is lawful.
-  pub item_field_lawful : IsLawfulField (item_field (among numbers) G)
-  item_field_lawful = item_lawful G l (among numbers) strict_begins
+  -- A field of a lawful type with tags is lawful.
+  pub item_field_lawful : IsLawfulField (item_field (among tags) G)
+  item_field_lawful = item_lawful G l (among tags) strict_begins
 
   -- So is an optional one.
-  pub optional_field_lawful : IsLawfulField (optional_field (among numbers) (left_out_among numbers) G)
-  optional_field_lawful = option_lawful G l (among numbers) (left_out_among numbers) strict_begins strict_stays
+  pub optional_field_lawful : IsLawfulField (optional_field (among tags) (left_out_among tags) G)
+  optional_field_lawful = option_lawful G l (among tags) (left_out_among tags) strict_begins strict_stays
       (λ rules rest apart. apart)
 
-module _ {S : Type 0} (number : ℕ) (G : ItemGrammar S) (l : IsLawfulItem G) (numbered : FormNumber G.Form number) where
-  stays_by : (rules : EncodingRules) (v : G.Value) (o rest : List ℕ) → IsStrict G.Form v o →
-      left_out_by number rules (o ++ rest) → ⊥
-  stays_by rules v o rest s =
-      let b = strict_header G rules v o rest s in
-      not_left_out (header_rule rules) (o ++ rest) b.header b.rest b.id b.form number b.header_is b.is
-      (b.number_is ∙ numbered v s.id s.content s.form)
-
-  -- And one of one tag number.
-  pub optional_by_lawful : IsLawfulField (optional_field (among (number ∷ [])) (left_out_by number) G)
-  optional_by_lawful = option_lawful G l (among (number ∷ [])) (left_out_by number)
-      (strict_begins (number ∷ []) G l (one_number G.Form number numbered)) stays_by
-      (λ rules rest apart. apart_leaves_out (header_rule rules) number rest apart)
-
 module _ {S : Type 0} (G : ItemGrammar S) (l : IsLawfulItem G) where
-  -- A field of a lawful type is lawful whatever its tag numbers.
-  pub any_field_lawful : IsLawfulField (item_field any_number G)
-  any_field_lawful = item_lawful G l any_number (λ rules v o rest s. tt)
+  -- A field of a lawful type is lawful whatever its tags.
+  pub any_field_lawful : IsLawfulField (item_field any_tag G)
+  any_field_lawful = item_lawful G l any_tag (λ rules v o rest s. tt)
 
   -- no strict encoding is empty
   strict_is_some : (v : G.Value) (o rest : List ℕ) → IsStrict G.Form v o → o ++ rest ≢ []
@@ -417,8 +394,8 @@ module _ {S : Type 0} (G : ItemGrammar S) (l : IsLawfulItem G) where
       absurd (omega (arith, two, none))
 
   -- So is an optional one, which is left out at the end.
-  pub any_option_lawful : IsLawfulField (optional_field any_number left_out_at_end G)
-  any_option_lawful = option_lawful G l any_number left_out_at_end (λ rules v o rest s. tt)
+  pub any_option_lawful : IsLawfulField (optional_field any_tag left_out_at_end G)
+  any_option_lawful = option_lawful G l any_tag left_out_at_end (λ rules v o rest s. tt)
       (λ rules v o rest s. strict_is_some v o rest s) (λ rules rest apart. apart)
 
 -- where the reader of a type does not report out of memory, that of options does not

@@ -27,9 +27,9 @@ use Rattle.asn1_headers.specs.Ber.{max_depth, EndsWithin}
 use Rattle.x690.specs.Nested.{IsElement, ElementFault}
 use Rattle.asn1_rs.specs.Optional.{IsAtEnd, OptionGives, in_some}
 use Rattle.asn1_rs.specs.Traits.{BerGives, DerGives, PassesAll}
-use Rattle.asn1_rs.specs.Structs.{EncodingRules, by_der, by_ber, any_number, left_out_at_end, words_by, IsTruncatedBy, FieldGrammar, RowGrammar}
-use Rattle.asn1_rs.specs.Structs.{among, OptionTakes, ReadsField}
-use Rattle.asn1_rs.specs.Structs.{Numbers, item_field, optional_field, empty_row, row_of, EndGives, RowGives, StructBody, StructGives}
+use Rattle.asn1_rs.specs.Structs.{EncodingRules, by_der, by_ber, any_tag, left_out_at_end, words_by, IsTruncatedBy, FieldGrammar, RowGrammar}
+use Rattle.asn1_rs.specs.Structs.{among, one_class, OptionTakes, ReadsField}
+use Rattle.asn1_rs.specs.Structs.{FieldTags, item_field, optional_field, empty_row, row_of, EndGives, RowGives, StructBody, StructGives}
 use Rattle.asn1_rs.specs.Structs.Data.{AnswersField, AnswersRow, AnswersAlso, LawfulStructOf, grammar_of_struct}
 use Rattle.asn1_rs.specs.Structs.Data.{field_of, struct_type}
 use Rattle.asn1_rs.specs.Laws.Structs.Fields.{IsLawfulField, item_reads, optional_reads, optional_no_memory}
@@ -74,11 +74,11 @@ pub both_answer : {S R : Type 0} (rules : EncodingRules) (F : FieldGrammar S) (G
 both_answer rules F G f =
     row_answers rules F G f (AnswersField rules F) (AnswersRow rules G) (λ o a g. g) (λ o a g. g)
 
-module _ {S : Type 0} (rules : EncodingRules) (G : ItemGrammar S) (numbers : Numbers)
+module _ {S : Type 0} (rules : EncodingRules) (G : ItemGrammar S) (tags : FieldTags)
     (LeftOut : EncodingRules → List ℕ → Type 0) where
   -- None with all octets is the answer of an optional field that is told to be left out.
   pub none_answers : (octets : List ℕ) (told : Bool) → IsTrue told ↔ LeftOut rules octets → told ≡ true →
-      AnswersField rules (optional_field numbers LeftOut G) octets (Ok (octets, None))
+      AnswersField rules (optional_field tags LeftOut G) octets (Ok (octets, None))
   none_answers octets told tells is = record { exact = λ k. (tells.0 is, refl); no_memory = λ none. tt }
 
   nothing_held : (octets : List ℕ) → (LeftOut rules octets → ⊥) →
@@ -88,15 +88,15 @@ module _ {S : Type 0} (rules : EncodingRules) (G : ItemGrammar S) (numbers : Num
   nothing_held octets stays none (Some v) rest t = none v rest t.1
 
   held_reads : (octets : List ℕ) (its : Result (List ℕ × S) (Refusal Error)) → (LeftOut rules octets → ⊥) →
-      ReadsField rules (item_field numbers G) octets its →
-      ReadsField rules (optional_field numbers LeftOut G) octets (in_some its)
+      ReadsField rules (item_field tags G) octets its →
+      ReadsField rules (optional_field tags LeftOut G) octets (in_some its)
   held_reads octets (Ok x) stays f = (stays, f)
   held_reads octets (Err r) stays (inl m) = inl m
   held_reads octets (Err r) stays (inr none) = inr (nothing_held octets stays none)
 
   held_answer : (octets : List ℕ) → (LeftOut rules octets → ⊥) →
-      (its : Result (List ℕ × S) (Refusal Error)) → AnswersField rules (item_field numbers G) octets its →
-      AnswersField rules (optional_field numbers LeftOut G) octets (in_some its)
+      (its : Result (List ℕ × S) (Refusal Error)) → AnswersField rules (item_field tags G) octets its →
+      AnswersField rules (optional_field tags LeftOut G) octets (in_some its)
   held_answer octets stays (Ok x) a =
       record { exact = λ k. held_reads octets (Ok x) stays (a.exact k); no_memory = λ none. tt }
   held_answer octets stays (Err r) a =
@@ -104,11 +104,11 @@ module _ {S : Type 0} (rules : EncodingRules) (G : ItemGrammar S) (numbers : Num
 
   -- And else the answer of the required field, in Some.
   pub held_answers : (octets : List ℕ) (told : Bool) → IsTrue told ↔ LeftOut rules octets → told ≡ false →
-      (its : Result (List ℕ × S) (Refusal Error)) → AnswersField rules (item_field numbers G) octets its →
+      (its : Result (List ℕ × S) (Refusal Error)) → AnswersField rules (item_field tags G) octets its →
       (answer : Result (List ℕ × Option S) (Refusal Error)) → answer ≡ in_some its →
-      AnswersField rules (optional_field numbers LeftOut G) octets answer
+      AnswersField rules (optional_field tags LeftOut G) octets answer
   held_answers octets told tells stays its a answer is =
-      subst (AnswersField rules (optional_field numbers LeftOut G) octets) (sym is)
+      subst (AnswersField rules (optional_field tags LeftOut G) octets) (sym is)
       (held_answer octets (λ out. absurd (false≢true (sym stays ∙ tells.1 out))) its a)
 
 module _ {S : Type 0} (rules : EncodingRules) (G : ItemGrammar S) (l : IsLawfulItem G)
@@ -118,23 +118,23 @@ module _ {S : Type 0} (rules : EncodingRules) (G : ItemGrammar S) (l : IsLawfulI
     (never_oom : G.allocates ≡ false → (octets : List ℕ) (answer : Result (List ℕ × S) (Refusal Error)) →
     reads octets answer → IfErr answer (ErrorIs (IsOther (λ (x y : Error). y ≡ x)))) where
   -- An exact reader of a type answers as its required field does.
-  pub item_answers : (numbers : Numbers) (octets : List ℕ) (answer : Result (List ℕ × S) (Refusal Error)) →
-      reads octets answer → AnswersField rules (item_field numbers G) octets answer
-  item_answers numbers octets answer g = record {
-    exact = λ k. item_reads G l rules reads exact numbers octets answer k g;
+  pub item_answers : (tags : FieldTags) (octets : List ℕ) (answer : Result (List ℕ × S) (Refusal Error)) →
+      reads octets answer → AnswersField rules (item_field tags G) octets answer
+  item_answers tags octets answer g = record {
+    exact = λ k. item_reads G l rules reads exact tags octets answer k g;
     no_memory = λ none. never_oom none octets answer g;
   }
 
   -- And its reader of options as its optional field.
-  pub option_answers : (numbers : Numbers) (LeftOut : EncodingRules → List ℕ → Type 0) (octets : List ℕ)
+  pub option_answers : (tags : FieldTags) (LeftOut : EncodingRules → List ℕ → Type 0) (octets : List ℕ)
       (answer : Result (List ℕ × Option S) (Refusal Error)) → OptionGives (LeftOut rules) reads octets answer →
-      AnswersField rules (optional_field numbers LeftOut G) octets answer
-  option_answers numbers LeftOut octets answer g = record {
-    exact = λ k. optional_reads G l rules reads exact numbers LeftOut octets answer k g;
+      AnswersField rules (optional_field tags LeftOut G) octets answer
+  option_answers tags LeftOut octets answer g = record {
+    exact = λ k. optional_reads G l rules reads exact tags LeftOut octets answer k g;
     no_memory = λ none. optional_no_memory (LeftOut rules) reads (never_oom none) octets answer g;
   }
 
--- Elements of any tag number are read exactly, by DER.
+-- Elements of any tag are read exactly, by DER.
 any_exact_by_der : (octets : List ℕ) (answer : Result (List ℕ × Any) (Refusal Error)) → IsOctets octets →
     DerGives IsDefiniteOr IsTheElement (λ (x y : Error). y ≡ x) octets answer →
     Exactly IsTruncatedIdentifier (item_grammar any_element).Der any_element.value
@@ -174,28 +174,28 @@ any_never_oom_by_ber none = element_no_memory (IsElement max_depth) (ElementFaul
 
 pub any_answers_by_der : (octets : List ℕ) (answer : Result (List ℕ × Any) (Refusal Error)) →
     DerGives IsDefiniteOr IsTheElement (λ (x y : Error). y ≡ x) octets answer →
-    AnswersField by_der (item_field any_number (item_grammar any_element)) octets answer
+    AnswersField by_der (item_field any_tag (item_grammar any_element)) octets answer
 any_answers_by_der = item_answers by_der (item_grammar any_element) (lawful_item any_element element_lawful)
-    (DerGives IsDefiniteOr IsTheElement (λ (x y : Error). y ≡ x)) any_exact_by_der any_never_oom_by_der any_number
+    (DerGives IsDefiniteOr IsTheElement (λ (x y : Error). y ≡ x)) any_exact_by_der any_never_oom_by_der any_tag
 
 pub any_answers_by_ber : (octets : List ℕ) (answer : Result (List ℕ × Any) (Refusal Error)) →
     BerGives IsTheElement (λ (x y : Error). y ≡ x) octets answer →
-    AnswersField by_ber (item_field any_number (item_grammar any_element)) octets answer
+    AnswersField by_ber (item_field any_tag (item_grammar any_element)) octets answer
 any_answers_by_ber = item_answers by_ber (item_grammar any_element) (lawful_item any_element element_lawful)
-    (BerGives IsTheElement (λ (x y : Error). y ≡ x)) any_exact_by_ber any_never_oom_by_ber any_number
+    (BerGives IsTheElement (λ (x y : Error). y ≡ x)) any_exact_by_ber any_never_oom_by_ber any_tag
 
 pub any_option_answers_by_der : (octets : List ℕ) (answer : Result (List ℕ × Option Any) (Refusal Error)) →
     OptionGives IsAtEnd (DerGives IsDefiniteOr IsTheElement (λ (x y : Error). y ≡ x)) octets answer →
-    AnswersField by_der (optional_field any_number left_out_at_end (item_grammar any_element)) octets answer
+    AnswersField by_der (optional_field any_tag left_out_at_end (item_grammar any_element)) octets answer
 any_option_answers_by_der = option_answers by_der (item_grammar any_element) (lawful_item any_element element_lawful)
-    (DerGives IsDefiniteOr IsTheElement (λ (x y : Error). y ≡ x)) any_exact_by_der any_never_oom_by_der any_number
+    (DerGives IsDefiniteOr IsTheElement (λ (x y : Error). y ≡ x)) any_exact_by_der any_never_oom_by_der any_tag
     left_out_at_end
 
 pub any_option_answers_by_ber : (octets : List ℕ) (answer : Result (List ℕ × Option Any) (Refusal Error)) →
     OptionGives IsAtEnd (BerGives IsTheElement (λ (x y : Error). y ≡ x)) octets answer →
-    AnswersField by_ber (optional_field any_number left_out_at_end (item_grammar any_element)) octets answer
+    AnswersField by_ber (optional_field any_tag left_out_at_end (item_grammar any_element)) octets answer
 any_option_answers_by_ber = option_answers by_ber (item_grammar any_element) (lawful_item any_element element_lawful)
-    (BerGives IsTheElement (λ (x y : Error). y ≡ x)) any_exact_by_ber any_never_oom_by_ber any_number left_out_at_end
+    (BerGives IsTheElement (λ (x y : Error). y ≡ x)) any_exact_by_ber any_never_oom_by_ber any_tag left_out_at_end
 
 module _ {T : Type 0} (rules : EncodingRules) (X : LawfulStructOf T) (gives : List ℕ → Result T Error → Type 0) where
   -- The conversion of an element to a struct is exact.
@@ -238,7 +238,7 @@ module _ {T : Type 0} (X : LawfulStructOf T) (gives : List ℕ → Result T Erro
       AnswersField by_der (field_of (struct_type X)).grammar octets answer
   struct_answers_by_der = item_answers by_der (grammar_of_struct X) ((struct_type X).lawful refl)
       (DerGives PassesAll (StructGives (AnswersAlso by_der X gives)) (λ (x y : Error). y ≡ x))
-      (struct_by_der_exact X gives) (struct_by_der_never_oom X gives) (among (16 ∷ []))
+      (struct_by_der_exact X gives) (struct_by_der_never_oom X gives) (among ((one_class 0, 16) ∷ []))
 
   -- So does its reader by BER.
   pub struct_answers_by_ber : (octets : List ℕ) (answer : Result (List ℕ × T) (Refusal Error)) →
@@ -253,4 +253,4 @@ module _ {T : Type 0} (X : LawfulStructOf T) (gives : List ℕ → Result T Erro
       answer)
       (λ none. element_no_memory (IsElement max_depth) (ElementFault max_depth) ber_violation ber_violation_no_memory
       PassesAll (StructGives (AnswersAlso by_ber X gives)) (λ (x y : Error). y ≡ x) all_pass
-      (struct_never_oom by_ber X gives none)) (among (16 ∷ []))
+      (struct_never_oom by_ber X gives none)) (among ((one_class 0, 16) ∷ []))

@@ -15,9 +15,9 @@ use Rattle.asn1_headers.specs.Answers.{TellsMemory, IsOther}
 use Rattle.asn1_headers.specs.Error.{ErrorIs}
 use Rattle.asn1_rs.specs.FieldReader.{BecomesError}
 use Rattle.asn1_rs.specs.Laws.Whole.{memory_becomes}
-use Rattle.asn1_rs.specs.Structs.{EncodingRules, header_rule, FieldGrammar, RowGrammar, empty_row, row_of, Numbers}
-use Rattle.asn1_rs.specs.Structs.{any_number, among, is_one_of, have_none_in_common, numbers_disjoint, or_those}
-use Rattle.asn1_rs.specs.Structs.{numbers_of}
+use Rattle.asn1_rs.specs.Structs.{EncodingRules, header_rule, FieldGrammar, RowGrammar, empty_row, row_of, FieldTags}
+use Rattle.asn1_rs.specs.Structs.{TagClass, any_class, one_class, any_tag, among, is_a_tag, is_in_class, classes_meet}
+use Rattle.asn1_rs.specs.Structs.{meets_one_of, have_none_in_common, disjoint_tags, or_those, tags_of_row}
 use Rattle.asn1_rs.specs.Structs.{BeginsWithOneOf, BeginsAmong, BeginsApart, is_unambiguous, EndGives, RowGives}
 use Rattle.asn1_rs.specs.Structs.{ReadsRow, ReadsField}
 use Rattle.asn1_rs.specs.Laws.Structs.Fields.{IsLawfulField}
@@ -32,7 +32,7 @@ pub record IsLawfulRow {S : Type 0} (R : RowGrammar S) : Type 0 where
   pub strict_der : (v : R.Value) (o : List ℕ) → R.Strict v o → R.IsDer v
   pub strict_octets : (v : R.Value) (o : List ℕ) → R.Strict v o → IsOctets o
   pub begins : (rules : EncodingRules) (v : R.Value) (o : List ℕ) → R.Strict v o →
-      BeginsAmong (header_rule rules) R.numbers o
+      BeginsAmong (header_rule rules) R.tags o
   pub strict_takes : R.told ≡ true → (rules : EncodingRules) (v : R.Value) (o : List ℕ) → R.Strict v o →
       R.Takes rules o v
 
@@ -44,6 +44,16 @@ first_holds false b e = absurd (cc)
 pub second_holds : (a b : Bool) → (a && b) ≡ true → b ≡ true
 second_holds true b e = e
 second_holds false b e = absurd (cc)
+
+-- the second of two holds, or the first does too
+or_later : (a b : Bool) → b ≡ true → (a || b) ≡ true
+or_later true b e = refl
+or_later false b e = e
+
+-- what holds is not denied
+denied : (b : Bool) → b ≡ true → not b ≡ true → ⊥
+denied true e d = cc
+denied false e d = cc
 
 -- the row of no fields is lawful
 pub empty_lawful : IsLawfulRow empty_row
@@ -59,86 +69,124 @@ empty_lawful = record {
   strict_takes = λ told rules v o s. s;
 }
 
--- Tag numbers.
+-- Tags.
 
--- a number of one of two lists is one of both
-first_list : (n : ℕ) (ns ms : List ℕ) → is_one_of n ns ≡ true → is_one_of n (ns ++ ms) ≡ true
-first_list n [] ms h = absurd (cc)
-first_list n (x ∷ ns) ms h = elim (nat_eq x n) as
-    (λ b. (b || is_one_of n ns) ≡ true → (b || is_one_of n (ns ++ ms)) ≡ true)
-    [ true ↦ (λ t. refl) | false ↦ (λ t. first_list n ns ms t) ] h
+-- a tag of one of two lists is one of both
+first_list : (class number : ℕ) (ts us : List (TagClass × ℕ)) → is_a_tag class number ts ≡ true →
+    is_a_tag class number (ts ++ us) ≡ true
+first_list class number [] us h = absurd (cc)
+first_list class number (x ∷ ts) us h = elim (is_in_class class x.0 && nat_eq x.1 number) as
+    (λ b. (b || is_a_tag class number ts) ≡ true → (b || is_a_tag class number (ts ++ us)) ≡ true)
+    [ true ↦ (λ t. refl) | false ↦ (λ t. first_list class number ts us t) ] h
 
-second_list : (n : ℕ) (ns ms : List ℕ) → is_one_of n ms ≡ true → is_one_of n (ns ++ ms) ≡ true
-second_list n [] ms h = h
-second_list n (x ∷ ns) ms h = elim (nat_eq x n) as (λ b. (b || is_one_of n (ns ++ ms)) ≡ true)
-    [ true ↦ refl | false ↦ second_list n ns ms h ]
+second_list : (class number : ℕ) (ts us : List (TagClass × ℕ)) → is_a_tag class number us ≡ true →
+    is_a_tag class number (ts ++ us) ≡ true
+second_list class number [] us h = h
+second_list class number (x ∷ ts) us h = elim (is_in_class class x.0 && nat_eq x.1 number) as
+    (λ b. (b || is_a_tag class number (ts ++ us)) ≡ true)
+    [ true ↦ refl | false ↦ second_list class number ts us h ]
 
--- two lists that have none in common, by the first number of one
-none_here : (n : ℕ) (ns ms : List ℕ) → have_none_in_common (n ∷ ns) ms ≡ true → not (is_one_of n ms) ≡ true
-none_here n ns ms apart = elim (is_one_of n ms) as (λ b. (not b && have_none_in_common ns ms) ≡ true → not b ≡ true)
-    [ true ↦ (λ t. t) | false ↦ (λ t. refl) ] apart
+-- two lists that have none in common, by the first tag of one
+none_here : (tag : TagClass × ℕ) (ts us : List (TagClass × ℕ)) → have_none_in_common (tag ∷ ts) us ≡ true →
+    not (meets_one_of tag.0 tag.1 us) ≡ true
+none_here tag ts us apart = first_holds (not (meets_one_of tag.0 tag.1 us)) (have_none_in_common ts us) apart
 
-none_there : (n : ℕ) (ns ms : List ℕ) → have_none_in_common (n ∷ ns) ms ≡ true → have_none_in_common ns ms ≡ true
-none_there n ns ms apart = elim (is_one_of n ms) as
-    (λ b. (not b && have_none_in_common ns ms) ≡ true → have_none_in_common ns ms ≡ true)
-    [ true ↦ (λ t. absurd (cc)) | false ↦ (λ t. t) ] apart
+none_there : (tag : TagClass × ℕ) (ts us : List (TagClass × ℕ)) → have_none_in_common (tag ∷ ts) us ≡ true →
+    have_none_in_common ts us ≡ true
+none_there tag ts us apart = second_holds (not (meets_one_of tag.0 tag.1 us)) (have_none_in_common ts us) apart
 
--- a number that is one of these, and one that is none
-differs : (n m : ℕ) (numbers : List ℕ) → not (is_one_of n numbers) ≡ true → is_one_of m numbers ≡ true →
-    nat_eq n m ≡ true → ⊥
-differs n m numbers none h e =
-    let t : is_one_of n numbers ≡ true = subst (λ (z : ℕ). is_one_of z numbers ≡ true) (sym (eqb-true n m e)) h in
-    absurd (let u : not true ≡ true = subst (λ (b : Bool). not b ≡ true) t none in cc)
+-- a class that is in two lets them meet
+meet_in : (class : ℕ) (own other : TagClass) → is_in_class class own ≡ true → is_in_class class other ≡ true →
+    classes_meet own other ≡ true
+meet_in class any_class other p q = refl
+meet_in class (one_class own) other p q =
+    subst (λ (z : ℕ). is_in_class z other ≡ true) (sym (eqb-true own class p)) q
 
--- no number of the second of two lists that have none in common is one of the first
-none_of_first : (n : ℕ) (ns ms : List ℕ) → have_none_in_common ns ms ≡ true → is_one_of n ms ≡ true →
-    is_one_of n ns ≡ false
-none_of_first n [] ms apart h = refl
-none_of_first n (x ∷ ns) ms apart h =
-    tells (nat_eq x n) refl (none_of_first n ns ms (none_there x ns ms apart) h)
+-- both hold of two
+both_hold : (a b : Bool) → a ≡ true → b ≡ true → (a && b) ≡ true
+both_hold true b p q = q
+both_hold false b p q = absurd (cc)
+
+-- a number that two others are is the same
+same_number : (own other number : ℕ) → nat_eq own number ≡ true → nat_eq other number ≡ true →
+    nat_eq other own ≡ true
+same_number own other number p q = eq-eqb other own (eqb-true other number q ∙ sym (eqb-true own number p))
+
+-- A tag of this class and number meets one of those, where one has this class and number.
+meets_there : (class number : ℕ) (tag : TagClass × ℕ) (us : List (TagClass × ℕ)) →
+    (is_in_class class tag.0 && nat_eq tag.1 number) ≡ true → is_a_tag class number us ≡ true →
+    meets_one_of tag.0 tag.1 us ≡ true
+meets_there class number tag [] own h = absurd (cc)
+meets_there class number tag (u ∷ us) own h =
+    tells (is_in_class class u.0 && nat_eq u.1 number) refl (meets_there class number tag us own) h
   where
-    tells : (b : Bool) → nat_eq x n ≡ b → is_one_of n ns ≡ false → (nat_eq x n || is_one_of n ns) ≡ false
-    tells true e others = absurd (differs x n ms (none_here x ns ms apart) h e)
+    here : (is_in_class class u.0 && nat_eq u.1 number) ≡ true → (classes_meet tag.0 u.0 && nat_eq u.1 tag.1) ≡ true
+    here t = both_hold (classes_meet tag.0 u.0) (nat_eq u.1 tag.1)
+        (meet_in class tag.0 u.0 (first_holds (is_in_class class tag.0) (nat_eq tag.1 number) own)
+        (first_holds (is_in_class class u.0) (nat_eq u.1 number) t))
+        (same_number tag.1 u.1 number (second_holds (is_in_class class tag.0) (nat_eq tag.1 number) own)
+        (second_holds (is_in_class class u.0) (nat_eq u.1 number) t))
+
+    tells : (b : Bool) → (is_in_class class u.0 && nat_eq u.1 number) ≡ b →
+        (is_a_tag class number us ≡ true → meets_one_of tag.0 tag.1 us ≡ true) →
+        (b || is_a_tag class number us) ≡ true →
+        ((classes_meet tag.0 u.0 && nat_eq u.1 tag.1) || meets_one_of tag.0 tag.1 us) ≡ true
+    tells true e others t = rw (here e) refl
+    tells false e others t = or_later (classes_meet tag.0 u.0 && nat_eq u.1 tag.1) (meets_one_of tag.0 tag.1 us)
+        (others t)
+
+-- no tag of the second of two lists that have none in common is one of the first
+none_of_first : (class number : ℕ) (ts us : List (TagClass × ℕ)) → have_none_in_common ts us ≡ true →
+    is_a_tag class number us ≡ true → is_a_tag class number ts ≡ false
+none_of_first class number [] us apart h = refl
+none_of_first class number (x ∷ ts) us apart h =
+    tells (is_in_class class x.0 && nat_eq x.1 number) refl
+    (none_of_first class number ts us (none_there x ts us apart) h)
+  where
+    tells : (b : Bool) → (is_in_class class x.0 && nat_eq x.1 number) ≡ b → is_a_tag class number ts ≡ false →
+        ((is_in_class class x.0 && nat_eq x.1 number) || is_a_tag class number ts) ≡ false
+    tells true e others =
+        absurd (denied (meets_one_of x.0 x.1 us) (meets_there class number x us e h) (none_here x ts us apart))
     tells false e others = rw e others
 
 -- octets that begin with one of these begin with one of these or those
-begins_here : (rule : Rule) (own behind : Numbers) (octets : List ℕ) → BeginsWithOneOf rule own octets →
+begins_here : (rule : Rule) (own behind : FieldTags) (octets : List ℕ) → BeginsWithOneOf rule own octets →
     BeginsWithOneOf rule (or_those own behind) octets
-begins_here rule any_number behind octets b = tt
-begins_here rule (among ns) any_number octets b = tt
-begins_here rule (among ns) (among ms) octets (m, b, h) = (m, b, first_list m ns ms h)
+begins_here rule any_tag behind octets b = tt
+begins_here rule (among ts) any_tag octets b = tt
+begins_here rule (among ts) (among us) octets (c, n, b, h) = (c, n, b, first_list c n ts us h)
 
-begins_behind : (rule : Rule) (own behind : Numbers) (octets : List ℕ) → BeginsWithOneOf rule behind octets →
+begins_behind : (rule : Rule) (own behind : FieldTags) (octets : List ℕ) → BeginsWithOneOf rule behind octets →
     BeginsWithOneOf rule (or_those own behind) octets
-begins_behind rule any_number behind octets b = tt
-begins_behind rule (among ns) any_number octets b = tt
-begins_behind rule (among ns) (among ms) octets (m, b, h) = (m, b, second_list m ns ms h)
+begins_behind rule any_tag behind octets b = tt
+begins_behind rule (among ts) any_tag octets b = tt
+begins_behind rule (among ts) (among us) octets (c, n, b, h) = (c, n, b, second_list c n ts us h)
 
--- and those that begin among numbers apart from these begin apart from these
-among_begins_apart : (rule : Rule) (own behind : Numbers) (octets : List ℕ) → numbers_disjoint own behind ≡ true →
+-- and those that begin among tags apart from these begin apart from these
+among_begins_apart : (rule : Rule) (own behind : FieldTags) (octets : List ℕ) → disjoint_tags own behind ≡ true →
     BeginsAmong rule behind octets → BeginsApart rule own octets
-among_begins_apart rule any_number (among []) octets apart (inl e) = e
-among_begins_apart rule any_number (among []) octets apart (inr (m, b, h)) = absurd (cc)
-among_begins_apart rule any_number (among (n ∷ ns)) octets apart b = absurd (cc)
-among_begins_apart rule any_number any_number octets apart b = absurd (cc)
-among_begins_apart rule (among ns) any_number octets apart b = absurd (cc)
-among_begins_apart rule (among ns) (among ms) octets apart (inl e) = inl e
-among_begins_apart rule (among ns) (among ms) octets apart (inr (m, b, h)) =
-    inr (m, b, none_of_first m ns ms apart h)
+among_begins_apart rule any_tag (among []) octets apart (inl e) = e
+among_begins_apart rule any_tag (among []) octets apart (inr (c, n, b, h)) = absurd (cc)
+among_begins_apart rule any_tag (among (t ∷ ts)) octets apart b = absurd (cc)
+among_begins_apart rule any_tag any_tag octets apart b = absurd (cc)
+among_begins_apart rule (among ts) any_tag octets apart b = absurd (cc)
+among_begins_apart rule (among ts) (among us) octets apart (inl e) = inl e
+among_begins_apart rule (among ts) (among us) octets apart (inr (c, n, b, h)) =
+    inr (c, n, b, none_of_first c n ts us apart h)
 
 -- that all are told says so of the others
-told_behind : (optional : Bool) (own numbers : Numbers) (behind : Bool) →
-    is_unambiguous optional own numbers behind ≡ true → behind ≡ true
-told_behind optional own numbers true e = refl
-told_behind optional own numbers false e = absurd (cc)
+told_behind : (optional : Bool) (own tags : FieldTags) (behind : Bool) →
+    is_unambiguous optional own tags behind ≡ true → behind ≡ true
+told_behind optional own tags true e = refl
+told_behind optional own tags false e = absurd (cc)
 
 -- and of an optional field
-told_here : (optional : Bool) (own numbers : Numbers) (behind : Bool) →
-    is_unambiguous optional own numbers behind ≡ true →
-    optional ≡ true → numbers_disjoint own numbers ≡ true
-told_here true own numbers true e o = e
-told_here true own numbers false e o = absurd (cc)
-told_here false own numbers behind e o = absurd (cc)
+told_here : (optional : Bool) (own tags : FieldTags) (behind : Bool) →
+    is_unambiguous optional own tags behind ≡ true →
+    optional ≡ true → disjoint_tags own tags ≡ true
+told_here true own tags true e o = e
+told_here true own tags false e o = absurd (cc)
+told_here false own tags behind e o = absurd (cc)
 
 module _ {S R : Type 0} (F : FieldGrammar S) (G : RowGrammar R) where
   module _ (f : IsLawfulField F) (g : IsLawfulRow G) where
@@ -159,32 +207,32 @@ module _ {S R : Type 0} (F : FieldGrammar S) (G : RowGrammar R) where
         s.4 ∙ ap (λ (z : List ℕ). z ++ s.1) here ∙ ap (λ (z : List ℕ). t.0 ++ z) there ∙ sym t.4
 
     row_begins : (rules : EncodingRules) (v : (row_of F G).Value) (o : List ℕ) → (row_of F G).Strict v o →
-        BeginsAmong (header_rule rules) (row_of F G).numbers o
+        BeginsAmong (header_rule rules) (row_of F G).tags o
     row_begins rules v o s =
-        subst (BeginsAmong (header_rule rules) (row_of F G).numbers) (sym s.4)
+        subst (BeginsAmong (header_rule rules) (row_of F G).tags) (sym s.4)
         (begins F.optional (f.begins rules v.0 s.0 s.1 s.2) (g.begins rules v.1 s.1 s.3))
       where
-        Begins : Numbers → List ℕ → Type 0
+        Begins : FieldTags → List ℕ → Type 0
         Begins = BeginsWithOneOf (header_rule rules)
 
-        begins : (optional : Bool) → ((s.0 ≡ []) × (optional ≡ true)) ⊎ Begins F.numbers (s.0 ++ s.1) →
-            BeginsAmong (header_rule rules) G.numbers s.1 →
-            BeginsAmong (header_rule rules) (numbers_of optional F.numbers G.numbers) (s.0 ++ s.1)
+        begins : (optional : Bool) → ((s.0 ≡ []) × (optional ≡ true)) ⊎ Begins F.tags (s.0 ++ s.1) →
+            BeginsAmong (header_rule rules) G.tags s.1 →
+            BeginsAmong (header_rule rules) (tags_of_row optional F.tags G.tags) (s.0 ++ s.1)
         begins false (inl h) b = absurd (let t = h.1 in cc)
         begins false (inr b) c = inr b
         begins true (inl h) (inl e) = inl (ap (λ (z : List ℕ). z ++ s.1) h.0 ∙ e)
         begins true (inl h) (inr b) =
             let same : s.1 ≡ s.0 ++ s.1 = sym (ap (λ (z : List ℕ). z ++ s.1) h.0) in
-            inr (begins_behind (header_rule rules) F.numbers G.numbers (s.0 ++ s.1) (subst (Begins G.numbers) same b))
-        begins true (inr b) c = inr (begins_here (header_rule rules) F.numbers G.numbers (s.0 ++ s.1) b)
+            inr (begins_behind (header_rule rules) F.tags G.tags (s.0 ++ s.1) (subst (Begins G.tags) same b))
+        begins true (inr b) c = inr (begins_here (header_rule rules) F.tags G.tags (s.0 ++ s.1) b)
 
     row_strict_takes : (row_of F G).told ≡ true → (rules : EncodingRules) (v : (row_of F G).Value) (o : List ℕ) →
         (row_of F G).Strict v o → (row_of F G).Takes rules o v
     row_strict_takes told rules v o s =
-        let behind = g.strict_takes (told_behind F.optional F.numbers G.numbers G.told told) rules v.1 s.1 s.3 in
+        let behind = g.strict_takes (told_behind F.optional F.tags G.tags G.told told) rules v.1 s.1 s.3 in
         let here : F.Takes rules (s.0 ++ s.1) v.0 s.1 = f.strict_takes rules v.0 s.0 s.1 s.2 (λ optional.
-        among_begins_apart (header_rule rules) F.numbers G.numbers s.1
-        (told_here F.optional F.numbers G.numbers G.told told optional) (g.begins rules v.1 s.1 s.3)) in
+        among_begins_apart (header_rule rules) F.tags G.tags s.1
+        (told_here F.optional F.tags G.tags G.told told optional) (g.begins rules v.1 s.1 s.3)) in
         (s.1, subst (λ (z : List ℕ). F.Takes rules z v.0 s.1) (sym s.4) here, behind)
 
     -- A lawful field before a lawful row makes a lawful row.

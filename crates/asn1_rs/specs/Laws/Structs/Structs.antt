@@ -10,7 +10,7 @@ use Rattle.asn1_headers.specs.declared.error.Error.TheVariants as errors
 use Rattle.asn1_headers.specs.Answers.{IsOther}
 use Rattle.asn1_rs.specs.declared.asn1_types.any.Any.{Any}
 use Rattle.asn1_rs.specs.Any.{parts_of}
-use Rattle.asn1_rs.specs.Grammar.{NoCheck, IsOneBody, FormBodies, FormChecks, FormTakes, FormNumber, TakesBody, made, of_class}
+use Rattle.asn1_rs.specs.Grammar.{NoCheck, IsOneBody, FormBodies, FormChecks, FormTakes, FormClass, FormNumber, TakesBody, made, of_class}
 use Rattle.asn1_rs.specs.Grammar.Form.{UniversalForm}
 use Rattle.asn1_rs.specs.Grammar.Item.{ItemGrammar, IsLawfulItem}
 use Rattle.asn1_rs.specs.Laws.Forms.{universal_one, universal_value, universal_fits}
@@ -76,6 +76,10 @@ module _ {S : Type 0} (R : RowGrammar S) where
   -- They have the tag number of sequences.
   pub struct_number : FormNumber Form 16
   struct_number = λ v i c f. ap (λ (z : Identifier). z.number) f.0
+
+  -- They are of the universal class.
+  pub struct_class : FormClass Form 0
+  struct_class = λ v i c f. ap (λ (z : Identifier). z.class) f.0
 
   -- The conversion is exact where the reader of the fields is.
   pub struct_takes : {T : Type 0} (rules : EncodingRules) (row : T → S) (gives : List ℕ → Result T Error → Type 0) →

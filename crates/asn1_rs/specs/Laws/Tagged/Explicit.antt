@@ -22,7 +22,7 @@ use Rattle.asn1_rs.specs.Any.{parts_of, AnyGives}
 use Rattle.asn1_headers.specs.Ber.{max_depth}
 use Rattle.asn1_rs.specs.Checks.{CheckGives, IsCheck, has_number, is_constructed, ◌before◌}
 use Rattle.asn1_headers.specs.Error.{Converted, FlattenedTo, ErrorIs}
-use Rattle.asn1_rs.specs.Grammar.{IsOneBody, TakesBody, FormChecks, FormBodies, FormTakes, FormNumber, NoCheck, DerWord}
+use Rattle.asn1_rs.specs.Grammar.{IsOneBody, TakesBody, FormChecks, FormBodies, FormTakes, FormClass, FormNumber, NoCheck, DerWord}
 use Rattle.asn1_rs.specs.Grammar.{Checks, made}
 use Rattle.asn1_rs.specs.Grammar.Form.{IsOneForm, IsOneValue, FitsElement, HasValues, IsStrict, WritesByValue}
 use Rattle.asn1_rs.specs.Grammar.Form.{WritesForm, header_of, HasForm}
@@ -137,6 +137,10 @@ module _ {V : Type 0} (class number : ℕ) where
     -- They have the number of the tag.
     pub explicit_number : FormNumber (ExplicitForm class number Form) (as_u32 number)
     explicit_number = λ v i c f. ap (λ (z : Identifier). z.number) f.id_is ∙ sym (number_is number f.is_number)
+
+    -- They are of its class.
+    pub explicit_class : FormClass (ExplicitForm class number Form) class
+    explicit_class = λ v i c f. ap (λ (z : Identifier). z.class) f.id_is
 
     -- Lawful over a lawful type.
 

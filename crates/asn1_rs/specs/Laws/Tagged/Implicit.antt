@@ -12,7 +12,7 @@ use Rattle.asn1_headers.specs.declared.tag.Tag.{Tag}
 use Rattle.asn1_headers.specs.Answers.{IsOther}
 use Rattle.asn1_rs.specs.Any.{parts_of}
 use Rattle.asn1_rs.specs.Checks.{CheckGives, IsCheck, has_number}
-use Rattle.asn1_rs.specs.Grammar.{IsOneBody, TakesBody, Checks, FormChecks, FormBodies, FormTakes, FormNumber, NoCheck}
+use Rattle.asn1_rs.specs.Grammar.{IsOneBody, TakesBody, Checks, FormChecks, FormBodies, FormTakes, FormClass, FormNumber, NoCheck}
 use Rattle.asn1_rs.specs.Grammar.{made, of_class}
 use Rattle.asn1_rs.specs.Grammar.Form.{IsOneForm, IsOneValue, FitsElement, HasValues, WritesByValue, WritesForm}
 use Rattle.asn1_rs.specs.Grammar.Form.{HasForm, header_of}
@@ -81,6 +81,10 @@ module _ {V : Type 0} (class number : ℕ) (Form : V → Identifier → List ℕ
   -- They have the number of the tag.
   pub implicit_number : FormNumber (ImplicitForm class number Form) (as_u32 number)
   implicit_number = λ v i c f. ap (λ (z : Identifier). z.number) f.id_is ∙ sym (number_is number f.is_number)
+
+  -- They are of its class.
+  pub implicit_class : FormClass (ImplicitForm class number Form) class
+  implicit_class = λ v i c f. ap (λ (z : Identifier). z.class) f.id_is
 
   -- where the value's strict parts are taken under the class of the tag, and have the tag number of its type
   module _ (own : ℕ) (Check : Parts → Type 0) (Body : Parts → V → Type 0) (numbered : FormNumber Form own)

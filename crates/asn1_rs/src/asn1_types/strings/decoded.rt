@@ -72,6 +72,9 @@ impl TestValidCharset for BmpString<'_> {
     }
 }
 
+// Of the kind of string, `small` says that its tag number is one of the low form, and `primitive` that it is none of
+// sequences or sets. `is` says that texts have octets of one code.
+
 impl<K: StringKind<Characters: CharacterCode>> LeafType for CodedString<'_, K> {
     type Number = K::Number;
 

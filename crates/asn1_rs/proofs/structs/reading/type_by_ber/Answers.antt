@@ -7,4 +7,4 @@ use Rattle.asn1_rs.proofs.structs.reading.type_by_ber.Goals as goal
 pub returns-clause-exact : goal.returns-clause-exact
 returns-clause-exact g c = let laws = g.met.T.LawfulBer c.lifetimes (search rules) in
     item_answers by_ber g.T.Grammar.grammar g.met.T.LawfulItem.lawful_item g.T.FromBer.ber_gives laws.ber_exact
-    laws.ber_no_memory (among g.T.ToldByNumber.numbers) c.args.octets.now (seen c.from_ber.result) c.from_ber.ensures
+    laws.ber_no_memory (among g.T.ToldByTag.tags) c.args.octets.now (seen c.from_ber.result) c.from_ber.ensures

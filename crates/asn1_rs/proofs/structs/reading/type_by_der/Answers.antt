@@ -7,4 +7,4 @@ use Rattle.asn1_rs.proofs.structs.reading.type_by_der.Goals as goal
 pub returns-clause-exact : goal.returns-clause-exact
 returns-clause-exact g c = let laws = g.met.T.LawfulDer c.lifetimes (search rules) in
     item_answers by_der g.T.Grammar.grammar g.met.T.LawfulItem.lawful_item g.T.FromDer.der_gives laws.der_exact
-    laws.der_no_memory (among g.T.ToldByNumber.numbers) c.args.octets.now (seen c.from_der.result) c.from_der.ensures
+    laws.der_no_memory (among g.T.ToldByTag.tags) c.args.octets.now (seen c.from_der.result) c.from_der.ensures

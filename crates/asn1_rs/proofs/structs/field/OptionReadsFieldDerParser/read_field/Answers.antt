@@ -5,6 +5,6 @@ use Rattle.asn1_rs.proofs.structs.field.OptionReadsFieldDerParser.read_field.Goa
 
 pub returns-clause-exact : goal.returns-clause-exact
 returns-clause-exact g c = let own = g.T.ReadsType.numbered in
-    held_answers by_der own.grammar (among own.numbers) (left_out_among own.numbers) c.args.octets.now
+    held_answers by_der own.grammar (among own.tags) (left_out_among own.tags) c.args.octets.now
     c.is_left_out.result c.is_left_out.ensures c.if-is_left_out.false (seen c.read_type.result)
     c.read_type.ensures.exact (seen c.held.result) c.held.ensures
