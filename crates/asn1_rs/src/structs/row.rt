@@ -97,15 +97,6 @@ where
     Ok((first, others))
 }
 
-/// The row of fields that the octets are, by the rules of the parser.
-#[inline(always)]
-fn row_by<'a, R: ReadsRow<'a, P>, P: ReadsBy>(alloc: Global, octets: &'a [u8]) -> Result<R, Error>
-    ensures answers { AnswersRow P.rules R.row_grammar octets.now result }
-    ensures gives { R.row_gives octets.now result }
-{
-    R::read_row(alloc, octets)
-}
-
 /// The row of fields that the octets are, by DER.
 #[inline(always)]
 pub fn row_by_der<'a, R: ReadsRow<'a, DerParser>>(
@@ -115,7 +106,7 @@ pub fn row_by_der<'a, R: ReadsRow<'a, DerParser>>(
     ensures answers { AnswersRow by_der R.row_grammar octets.now result }
     ensures gives { R.row_gives octets.now result }
 {
-    row_by::<R, DerParser>(alloc, octets)
+    R::read_row(alloc, octets)
 }
 
 /// The row of fields that the octets are, by BER.
@@ -127,7 +118,7 @@ pub fn row_by_ber<'a, R: ReadsRow<'a, BerParser>>(
     ensures answers { AnswersRow by_ber R.row_grammar octets.now result }
     ensures gives { R.row_gives octets.now result }
 {
-    row_by::<R, BerParser>(alloc, octets)
+    R::read_row(alloc, octets)
 }
 
 /// The struct whose fields the octets are, by the rules of the parser.
@@ -139,7 +130,7 @@ where
     ensures answers { MadeOf T.as_row (AnswersRow P.rules R.row_grammar) octets.now result }
     ensures gives { MadeOf T.as_row R.row_gives octets.now result }
 {
-    match row_by::<R, P>(alloc, octets) {
+    match R::read_row(alloc, octets) {
         Ok(row) => Ok(T::of_row(row)),
         Err(e) => Err(e),
     }
