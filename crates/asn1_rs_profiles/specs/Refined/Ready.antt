@@ -3,6 +3,11 @@ use Rattle.std.specs.Prelude.{◌≡◌, ℕ, ℤ, Bool, true, false, ◌&&◌, 
 use Rattle.std.proofs.Common.{◌∙◌, ap, sym, subst, inl, inr}
 use Rattle.std.proofs.lemmas.Bool.{and_parts, and_from, or_cases, or_left, or_right}
 use Rattle.std.proofs.lemmas.List.{length-map}
+use Rattle.std.proofs.lemmas.List.Sorted.{length_permutation}
+use mathlib.Core.Logic.{∥∥₁_elim}
+use Rattle.std.proofs.Math.Nat.{ℕ_set}
+use Rattle.x690.specs.Collections.{multiset}
+use Rattle.x690.specs.Laws.Collections.{permutation_from_multiset}
 use Rattle.x690.specs.Digits.{twos_complement_value}
 use Rattle.asn1_rs_profiles.specs.Refined.{GoesByValue}
 
@@ -37,6 +42,13 @@ one_length text x y e = ap (λ (t : List ℕ). length (chars t)) e
 pub same_count : {S V W : Type 0} (items : W → List S) (value : S → V) (x y : W) →
     map value (items x) ≡ map value (items y) → length (items x) ≡ length (items y)
 same_count items value x y e = sym (length-map (items x) value) ∙ ap length e ∙ length-map (items y) value
+
+-- Multisets of the same values have as many of these.
+pub same_number : {S V W : Type 0} (items : W → List S) (value : S → V) (x y : W) →
+    multiset (map value (items x)) ≡ multiset (map value (items y)) → length (items x) ≡ length (items y)
+same_number items value x y e =
+    ∥∥₁_elim (permutation_from_multiset (map value (items x)) (map value (items y)) e) (ℕ_set _ _) (λ p.
+    sym (length-map (items x) value) ∙ sym (length_permutation _ _ p) ∙ length-map (items y) value)
 
 module _ {S V : Type 0} (value : S → V) (P Q : S → Bool) (p : GoesByValue value P) (q : GoesByValue value Q) where
   -- Both properties go by the value where each does,

@@ -2,19 +2,20 @@
 ghost use Rattle.std.specs.Prelude.{◌≡◌, ℕ, chars, leb, length, string_bytes};
 ghost use Rattle.asn1_rs.specs.OctetString.{string_octets};
 ghost use Rattle.asn1_rs.specs.Sequence.SequenceOf.{sequence_items};
+ghost use Rattle.asn1_rs.specs.Set.{items_of};
 ghost use Rattle.asn1_rs.specs.Strings.{string_text};
 ghost use Rattle.asn1_rs_profiles.specs.Refined.Ready.{goes_by, is_between, one_length, same_count};
-ghost use Rattle.asn1_rs_profiles.specs.Refined.Ready.{same_length};
+ghost use Rattle.asn1_rs_profiles.specs.Refined.Ready.{same_length, same_number};
 
 use crate::refined::{LawfulProperty, Property};
 use asn1_rs::author::{CharacterCode, Coded, InPlace, Repertoire, RestrictedString, StringKind};
 use asn1_rs::laws::Grammar;
-use asn1_rs::{OctetString, SequenceOf};
+use asn1_rs::{OctetString, SequenceOf, SetOf};
 
 /// A type whose values have a size (X.680 51.5).
 ///
-/// That of an octet string is its number of octets, of a string of characters the number of these, and of a list the
-/// number of its items.
+/// That of an octet string is its number of octets, of a string of characters the number of these, and of a list or a
+/// set the number of its items.
 pub trait Measured {
     /// The size of a value.
     ghost size: { Self → ℕ };
@@ -128,6 +129,14 @@ impl<T> Measured for SequenceOf<T> {
     }
 }
 
+impl<T> Measured for SetOf<T> {
+    ghost size = { λ x. length (items_of x) };
+
+    fn size(&self) -> usize {
+        self.as_slice().len()
+    }
+}
+
 impl LawfulMeasured for OctetString<'_> {
     ghost one_size = { same_length string_octets };
 }
@@ -158,4 +167,8 @@ impl<T: Grammar> LawfulMeasured for Vec<T> {
 
 impl<T: Grammar> LawfulMeasured for SequenceOf<T> {
     ghost one_size = { same_count sequence_items T.grammar.value };
+}
+
+impl<T: Grammar> LawfulMeasured for SetOf<T> {
+    ghost one_size = { same_number items_of T.grammar.value };
 }
