@@ -1,12 +1,9 @@
 //! Time stamps that are kept: copies outlive the octets that they were read from.
 ghost use Rattle.asn1_rs.specs.Prelude.{copied_by};
 
-use crate::{MessageImprint, MessageImprintRow, StampAuthority, StampExtensions, TstInfo};
-use asn1_rs::author::{LawfulStruct, Row10};
-use asn1_rs::{
-    DefaultFalse, Defaulted, Error, GeneralizedTime, Integer, Oid, ToStatic, copy_fields,
-};
-use asn1_rs_profiles::Accuracy;
+use crate::{MessageImprint, MessageImprintRow, TstInfo, TstInfoRow};
+use asn1_rs::author::LawfulStruct;
+use asn1_rs::{Error, ToStatic, copy_fields};
 use std::alloc::Global;
 
 /// The copy owns its octets, and has the fields of its source.
@@ -21,27 +18,12 @@ impl<'a> ToStatic for MessageImprint<'a> {
     }
 }
 
-/// The fields of what a time stamp says, side by side.
-type StampFields<'a> = Row10<
-    u8,
-    Oid<'a>,
-    MessageImprint<'a>,
-    Integer<'a>,
-    GeneralizedTime,
-    Option<Accuracy>,
-    Defaulted<bool, DefaultFalse>,
-    Option<Integer<'a>>,
-    Option<StampAuthority<'a>>,
-    Option<StampExtensions<'a>>,
->;
-
 /// The copy owns its octets, and has the fields of its source.
 impl<'a> ToStatic for TstInfo<'a> {
     type Owned = TstInfo<'static>;
 
-    ghost copies = { copied_by
-        (λ x. (x.version, (x.policy, (x.message_imprint, (x.serial_number, (x.gen_time, (x.accuracy, (x.ordering, (x.nonce, (x.tsa, (x.extensions, tt)))))))))))
-        ⟦<StampFields<'static> as ToStatic>⟧.copies };
+    ghost copies = { copied_by ⟦<TstInfo<'a> as LawfulStruct>⟧.laws.as_row
+        ⟦<TstInfoRow<'static> as ToStatic>⟧.copies };
 
     fn to_static(&self, alloc: Global) -> Result<TstInfo<'static>, Error> {
         copy_fields!(self, alloc => TstInfo {

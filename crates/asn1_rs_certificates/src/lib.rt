@@ -17,7 +17,6 @@ mod signed_data;
 mod signer;
 mod single_response;
 mod stamp_answer;
-mod stamp_details;
 mod stamp_request;
 mod status;
 mod time_stamp;

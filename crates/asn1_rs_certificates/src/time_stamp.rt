@@ -1,12 +1,9 @@
-//! What a time stamp says (RFC 3161, 2.4.2). It is read by DER, and borrowed from the octets. The fields from the
-//! accuracy on stand in `stamp_details`.
+//! What a time stamp says (RFC 3161, 2.4.2). It is read by DER, and borrowed from the octets.
 ghost use Rattle.asn1_rs.specs.Prelude.{MadeOf, ReadsByDer, refl, seen, struct_of, WritesStrict};
-ghost use Rattle.asn1_rs_certificates.specs.TimeStamps.{details_of};
 
-use crate::stamp_details::{StampDetails, StampDetailsOf};
 use asn1_rs::author::{
-    BorrowedRow, Fields, FieldsKind, HasKind, HasReader, LawfulStruct, ReadsFields, ReadsRow, Row,
-    Row2, StructReader, row_by_der,
+    Fields, FieldsKind, HasKind, HasReader, LawfulStruct, ReadsFields, ReadsRow, Row, Row2, Row10,
+    StructReader,
 };
 use asn1_rs::laws::Grammar;
 use asn1_rs::{
@@ -97,17 +94,19 @@ pub type StampAuthority<'a> = TaggedExplicit<KeptAny<'a>, Error, 0>;
 /// Extensions, under their tag.
 pub type StampExtensions<'a> = TaggedImplicit<Vec<Extension<'a>>, Error, 1>;
 
-/// Its fields: what was stamped and when, and the others.
-pub type TstInfoRow<'a> = (
+/// Its fields.
+pub type TstInfoRow<'a> = Row10<
     u8,
-    (
-        Oid<'a>,
-        (
-            MessageImprint<'a>,
-            (Integer<'a>, (GeneralizedTime, StampDetails<'a>)),
-        ),
-    ),
-);
+    Oid<'a>,
+    MessageImprint<'a>,
+    Integer<'a>,
+    GeneralizedTime,
+    Option<Accuracy>,
+    Defaulted<bool, DefaultFalse>,
+    Option<Integer<'a>>,
+    Option<StampAuthority<'a>>,
+    Option<StampExtensions<'a>>,
+>;
 
 impl HasKind for TstInfo<'_> {
     type Kind = FieldsKind;
@@ -119,19 +118,19 @@ impl HasReader for TstInfo<'_> {
 
 impl<'a> LawfulStruct for TstInfo<'a> {
     ghost laws = { struct_of
-        (λ x. (x.version, (x.policy, (x.message_imprint, (x.serial_number, (x.gen_time, details_of x))))))
+        (λ x. (x.version, (x.policy, (x.message_imprint, (x.serial_number, (x.gen_time, (x.accuracy, (x.ordering, (x.nonce, (x.tsa, (x.extensions, tt)))))))))))
         ⟦<TstInfoRow<'a> as Row>⟧.row_laws refl };
 
     fn put_row(&self, fields: &mut Fields) -> SerializeResult<()> {
-        let stamp = (&self.serial_number, (&self.gen_time, StampDetailsOf(self)));
-        let stamped = (&self.policy, (&self.message_imprint, stamp));
-        (&self.version, stamped).put_each(fields)
+        put_fields!(self, fields =>
+            version, policy, message_imprint, serial_number, gen_time, accuracy, ordering, nonce,
+            tsa, extensions)
     }
 
     fn assert_row_valid(&self) {
-        let stamp = (&self.serial_number, (&self.gen_time, StampDetailsOf(self)));
-        let stamped = (&self.policy, (&self.message_imprint, stamp));
-        (&self.version, stamped).assert_each_valid()
+        assert_fields_valid!(self =>
+            version, policy, message_imprint, serial_number, gen_time, accuracy, ordering, nonce,
+            tsa, extensions)
     }
 }
 
@@ -140,25 +139,10 @@ impl<'a> ReadsFields<'a> for TstInfo<'a> {
         ⟦<TstInfoRow<'a> as ReadsRow<'a, DerParser>>⟧.row_gives };
 
     fn read_fields(alloc: Global, octets: &'a [u8]) -> Result<TstInfo<'a>, Error> {
-        match row_by_der::<TstInfoRow<'a>>(alloc, octets) {
-            Ok(row) => {
-                let (version, (policy, (message_imprint, stamp))) = row;
-                let (serial_number, (gen_time, details)) = stamp;
-                Ok(TstInfo {
-                    version,
-                    policy,
-                    message_imprint,
-                    serial_number,
-                    gen_time,
-                    accuracy: details.accuracy,
-                    ordering: details.ordering,
-                    nonce: details.nonce,
-                    tsa: details.tsa,
-                    extensions: details.extensions,
-                })
-            }
-            Err(e) => Err(e),
-        }
+        read_fields!(row_by_der, alloc, octets => TstInfo {
+            version, policy, message_imprint, serial_number, gen_time, accuracy, ordering, nonce,
+            tsa, extensions
+        })
     }
 }
 
