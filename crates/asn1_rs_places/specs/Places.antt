@@ -2,12 +2,13 @@
 -- too.
 use Rattle.std.specs.Prelude.{◌≡◌, ◌≢◌, ◌⊎◌, ◌+◌, ◌-◌, ◌^◌, ℕ, zero, suc, List, [], ◌∷◌, length, take, true, min}
 use Rattle.std.specs.Prelude.{IsTrue, Option, Some, None, Result, Ok, Err}
-use Rattle.asn1_rs.specs.Prelude.{class_number, Error}
+use Rattle.asn1_rs.specs.Prelude.{class_number, Error, has_a_tag, parts_of}
 use Rattle.asn1_headers.specs.Header.{class_of, is_constructed_of, tag_of, length_of}
 use Rattle.asn1_headers.specs.Header.Reading.{HeaderGives, ber_refusal}
 use Rattle.asn1_headers.specs.contracts.error.ErrorPartialEq.TheImpl as equal_errors
 use Rattle.asn1_headers.specs.declared.error.DerConstraint.TheVariants as constraints
 use Rattle.asn1_headers.specs.declared.error.Err.{Err as Refusal}
+use Rattle.asn1_headers.specs.declared.error.Err.TheVariants as refusals
 use Rattle.asn1_headers.specs.declared.error.Error.TheVariants as errors
 use Rattle.asn1_headers.specs.declared.header.Header.{Header}
 use Rattle.asn1_headers.specs.declared.length.Length.{Length}
@@ -134,6 +135,21 @@ IsInRow reads silent tells others place end octets told =
     IsToldUnder (Field place) reads silent tells end octets told ⊎
     ((rest : List ℕ) × (next : ℕ) × Accepts reads octets rest × (next ≡ next_place place) × others next end rest told)
 
+-- The fields from this place on are read as one part of the row, which is refused with this error. The place is the one
+-- that looking into these fields tells of this error. Where it tells none, the place is the front of the part.
+abbrev pub HasPlaceInPart : Error → (List ℕ → Type 0) → (ℕ → ℕ → List ℕ → Refused → Type 0) → ℕ → ℕ → List ℕ →
+    Refused → Type 0
+HasPlaceInPart e silent tells place end octets told =
+    ((inner : Refused) × tells place end octets inner × AreEqual inner.error e × HasPlaceOf inner told) ⊎
+    (TellsNotOf e silent (tells place) end octets × (told.steps.items ≡ FieldsFrom place ∷ []) ×
+    IsAtFront end octets told)
+
+-- The refusal of the part is told.
+abbrev pub IsInPart : {S : Type 0} → (List ℕ → Result S Error → Type 0) → (List ℕ → Type 0) →
+    (ℕ → ℕ → List ℕ → Refused → Type 0) → ℕ → ℕ → List ℕ → Refused → Type 0
+IsInPart gives silent tells place end octets told =
+    gives octets (Err told.error) × HasPlaceInPart told.error silent tells place end octets told
+
 -- Contents octets of elements.
 
 -- How many octets close an element: the two of end-of-contents, where its length is indefinite (X.690 8.1.5).
@@ -213,36 +229,45 @@ IsNotLookedInto octets = Unit {0}
 
 -- Arms of choices.
 
--- the header has this class and this tag number
-abbrev pub IsOfArm : ℕ → Tag → Header → Type 0
-IsOfArm class tag header = (class_number (class_of header) ≡ class) × ((tag_of header).0 ≡ tag.0)
+-- the element has this class and this tag number
+abbrev pub IsOfArm : ℕ → Tag → Any → Type 0
+IsOfArm class tag any = (class_number (class_of any.header) ≡ class) × ((tag_of any.header).0 ≡ tag.0)
 
--- nothing is told of the arm whose class and tag number the header has
-abbrev pub ArmIsTaken : {T : Type 0} → ℕ → Tag → Reads T → (Header → List ℕ → Type 0) → Header → List ℕ → Type 0
-ArmIsTaken class tag reads others header octets =
-    (IsOfArm class tag header × TakesOne reads octets) ⊎ ((IsOfArm class tag header → ⊥) × others header octets)
+-- it has the class and the tag number of one of these
+abbrev pub IsOfOneOf : List (ℕ × ℕ) → Any → Type 0
+IsOfOneOf tags any = has_a_tag tags (parts_of any).id ≡ true
 
--- The refusal is that of the arm whose class and tag number the header has.
-abbrev pub IsInArm : {T : Type 0} → ℕ → Tag → Reads T → (List ℕ → Type 0) → (ℕ → List ℕ → Refused → Type 0) →
-    (ℕ → Header → ℕ → List ℕ → Refused → Type 0) → ℕ → Header → ℕ → List ℕ → Refused → Type 0
-IsInArm class tag reads silent tells others place header end octets told =
-    (IsOfArm class tag header × IsToldUnder (Arm place) reads silent tells end octets told) ⊎
-    ((IsOfArm class tag header → ⊥) ×
-    ((next : ℕ) × (next ≡ next_place place) × others next header end octets told))
+-- nothing is told of the arm that the element is of
+abbrev pub ArmIsTaken : {T : Type 0} → (Any → Type 0) → Reads T → (Any → List ℕ → Type 0) → Any → List ℕ → Type 0
+ArmIsTaken IsOf reads others any octets =
+    (IsOf any × TakesOne reads octets) ⊎ ((IsOf any → ⊥) × others any octets)
 
--- The header of the element that begins the octets says which arm it is.
-abbrev pub IsInChoice : Reads Any → (Header → ℕ → List ℕ → Refused → Type 0) → ℕ → List ℕ → Refused → Type 0
+-- The refusal is that of the arm that the element is of.
+abbrev pub IsInArm : {T : Type 0} → (Any → Type 0) → Reads T → (List ℕ → Type 0) →
+    (ℕ → List ℕ → Refused → Type 0) → (ℕ → Any → ℕ → List ℕ → Refused → Type 0) → ℕ → Any → ℕ → List ℕ → Refused →
+    Type 0
+IsInArm IsOf reads silent tells others place any end octets told =
+    (IsOf any × IsToldUnder (Arm place) reads silent tells end octets told) ⊎
+    ((IsOf any → ⊥) × ((next : ℕ) × (next ≡ next_place place) × others next any end octets told))
+
+-- The element that begins the octets says which arm it is of.
+abbrev pub IsInChoice : Reads Any → (Any → ℕ → List ℕ → Refused → Type 0) → ℕ → List ℕ → Refused → Type 0
 IsInChoice elements tells end octets told = (any : Any) × (rest : List ℕ) × elements octets (Ok (rest, any)) ×
-    tells any.header end octets told
+    tells any end octets told
 
 -- no element begins the octets, or nothing is told of its arm
-abbrev pub ChoiceIsTaken : Reads Any → (Header → List ℕ → Type 0) → List ℕ → Type 0
+abbrev pub ChoiceIsTaken : Reads Any → (Any → List ℕ → Type 0) → List ℕ → Type 0
 ChoiceIsTaken elements silent octets = Rejects elements octets ⊎
-    ((any : Any) × (rest : List ℕ) × elements octets (Ok (rest, any)) × silent any.header octets)
+    ((any : Any) × (rest : List ℕ) × elements octets (Ok (rest, any)) × silent any octets)
+
+-- What an arm may answer that is made of this element. Its refusal is an error of the element.
+abbrev pub MakesArm : {T : Type 0} → (Any → Result T Error → Type 0) → Any → Reads T
+MakesArm takes any octets (Ok (rest, x)) = takes any (Ok x)
+MakesArm takes any octets (Err r) = (e : Error) × (r ≡ refusals.Error e) × takes any (Err e)
 
 -- Where arms are not looked into, nothing is told.
-abbrev pub ArmsAreSilent : Header → List ℕ → Type 0
-ArmsAreSilent header octets = Unit {0}
+abbrev pub ArmsAreSilent : Any → List ℕ → Type 0
+ArmsAreSilent any octets = Unit {0}
 
-abbrev pub ArmsTellNothing : ℕ → Header → ℕ → List ℕ → Refused → Type 0
-ArmsTellNothing place header end octets told = ⊥
+abbrev pub ArmsTellNothing : ℕ → Any → ℕ → List ℕ → Refused → Type 0
+ArmsTellNothing place any end octets told = ⊥

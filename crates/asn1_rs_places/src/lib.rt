@@ -7,9 +7,10 @@
 //! A type says into which parts they look, and has the make of the value. [`InStruct`] stands for a struct of fields,
 //! [`InChoice`] for a choice, and [`Items`] for a list. [`UnderTag`] stands for a value under an explicit tag, and
 //! [`InImplicit`] for one under an implicit tag. [`Held`] stands for an `Option` and a `Defaulted`, and [`ReadAs`] for
-//! a subtype. [`Whole`] stands where a value is not looked into, and [`Named`] gives fields and arms names.
+//! a subtype. [`InPart`] stands for the last fields of a divided row. [`Whole`] stands where a value is not looked into.
+//! [`Named`] gives fields and arms names, and [`LookOf`] divides a deep look.
 //!
-//!     type ReminderLook = (Whole, (Held<UnderTag<Whole>>, (Held<Whole>, (Items<Whole>, ()))));
+//!     type ReminderLook = Row4<Whole, Held<UnderTag<Whole>>, Held<Whole>, Items<Whole>>;
 //!
 //!     match read_reminder(alloc, octets) {
 //!         Ok((rest, reminder)) => ..,
@@ -32,9 +33,9 @@ pub use calls::{place_by_ber, place_by_ber_whole, place_by_der, place_by_der_who
 pub use choices::{InChoice, LooksIntoArms};
 pub use contents::{InImplicit, UnderTag};
 pub use items::Items;
-pub use looks::{Held, LooksInto, LooksWithin, ReadAs, ReadsValue, Whole};
+pub use looks::{HasLook, Held, LookOf, LooksInto, LooksWithin, ReadAs, ReadsValue, Whole};
 pub use names::{Named, NamesParts, NamesSteps, PartNames};
 pub use refused::{Found, Refused, Step};
-pub use rows::LooksIntoRow;
+pub use rows::{InPart, LooksIntoRow};
 pub use structs::InStruct;
 pub use texts::{Notation, WithNames};

@@ -3,8 +3,9 @@
 use crate::choices::InChoice;
 use crate::contents::{InImplicit, UnderTag};
 use crate::items::Items;
-use crate::looks::{Held, LooksInto, LooksWithin, ReadAs, Whole};
+use crate::looks::{Held, LookOf, LooksInto, LooksWithin, ReadAs, Whole};
 use crate::refused::{Refused, Step};
+use crate::rows::InPart;
 use crate::structs::InStruct;
 use std::alloc::Global;
 use std::marker::PhantomData;
@@ -48,6 +49,13 @@ impl<L: NamesSteps> NamesSteps for Held<L> {
 impl<T, L: NamesSteps> NamesSteps for ReadAs<T, L> {
     fn name_of(steps: &[Step]) -> Option<&'static str> {
         L::name_of(steps)
+    }
+}
+
+/// The author of `N` says the names that its look knows.
+impl<N: NamesSteps> NamesSteps for LookOf<N> {
+    fn name_of(steps: &[Step]) -> Option<&'static str> {
+        N::name_of(steps)
     }
 }
 
@@ -112,6 +120,12 @@ impl<L: NamesSteps, M: NamesParts> NamesParts for (L, M) {
         } else {
             M::name_within(place - 1, steps)
         }
+    }
+}
+
+impl<R, L: NamesParts> NamesParts for InPart<R, L> {
+    fn name_within(place: usize, steps: &[Step]) -> Option<&'static str> {
+        L::name_within(place, steps)
     }
 }
 
