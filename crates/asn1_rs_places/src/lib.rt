@@ -8,7 +8,7 @@
 //! [`InChoice`] for a choice, and [`Items`] for a list. [`UnderTag`] stands for a value under an explicit tag, and
 //! [`InImplicit`] for one under an implicit tag. [`Held`] stands for an `Option` and a `Defaulted`, and [`ReadAs`] for
 //! a subtype. [`InPart`] stands for the last fields of a divided row. [`Whole`] stands where a value is not looked into.
-//! [`Named`] gives fields and arms names, and [`LookOf`] divides a deep look.
+//! [`Named`] gives fields and arms names. A type with [`LooksInto`] of its own divides a deep look.
 //!
 //!     type ReminderLook = Row4<Whole, Held<UnderTag<Whole>>, Held<Whole>, Items<Whole>>;
 //!
@@ -33,7 +33,7 @@ pub use calls::{place_by_ber, place_by_ber_whole, place_by_der, place_by_der_who
 pub use choices::{InChoice, LooksIntoArms};
 pub use contents::{InImplicit, UnderTag};
 pub use items::Items;
-pub use looks::{HasLook, Held, LookOf, LooksInto, LooksWithin, ReadAs, ReadsValue, Whole};
+pub use looks::{Held, LooksInto, LooksWithin, ReadAs, ReadsValue, Whole};
 pub use names::{Named, NamesParts, NamesSteps, PartNames};
 pub use refused::{Found, Refused, Step};
 pub use rows::{InPart, LooksIntoRow};

@@ -38,6 +38,19 @@ impl<'a, T: FromBer<'a, Error>> ReadsValue<'a, BerParser> for T {
 }
 
 /// A way to look into a `T` that the parser `P` reads. Where the `T` is refused, the look tells which part is.
+///
+/// A deep look is divided by a type of the caller's own, which looks by a part of it. The compiler finds out once that
+/// the part fits its type, and says of a deep look that is not divided that a requirement overflows:
+///
+///     impl<'a> LooksInto<'a, BerParser, VarBind<'a>> for OfVarBind {
+///         ghost silent = { ⟦<InVarBind<'a> as LooksInto<'a, BerParser, VarBind<'a>>>⟧.silent };
+///
+///         ghost tells = { ⟦<InVarBind<'a> as LooksInto<'a, BerParser, VarBind<'a>>>⟧.tells };
+///
+///         fn look(alloc: Global, octets: &'a [u8], end: usize) -> Option<Refused> {
+///             <InVarBind<'a> as LooksInto<'a, BerParser, VarBind<'a>>>::look(alloc, octets, end)
+///         }
+///     }
 pub trait LooksInto<'a, P, T> {
     /// Nothing is told of these octets.
     ghost silent: { List ℕ → Type 0 };
@@ -174,32 +187,5 @@ impl<'a, P, S, T, L: LooksWithin<'a, P, T>> LooksWithin<'a, P, S> for ReadAs<T, 
 
     fn look_within(alloc: Global, octets: &'a [u8], end: usize) -> Option<Refused> {
         L::look_within(alloc, octets, end)
-    }
-}
-
-/// A name of a way to look into a `T` that the parser `P` reads.
-///
-///     impl<'a> HasLook<'a, BerParser, VarBind<'a>> for OfVarBind {
-///         type Look = InStruct<VarBindRow<'a>, Row2<Whole, InValue<'a>>>;
-///     }
-pub trait HasLook<'a, P, T> {
-    /// That look.
-    type Look: LooksInto<'a, P, T>;
-}
-
-/// Looks into a value by the look that `N` has.
-///
-/// The compiler finds out here that a look fits its type, and for [`LookOf`] not again. Of a deep look without such
-/// names it says that a requirement overflows.
-#[derive_where(Debug)]
-pub struct LookOf<N>(PhantomData<N>);
-
-impl<'a, P, T, N: HasLook<'a, P, T>> LooksInto<'a, P, T> for LookOf<N> {
-    ghost silent = { ⟦<N::Look as LooksInto<'a, P, T>>⟧.silent };
-
-    ghost tells = { ⟦<N::Look as LooksInto<'a, P, T>>⟧.tells };
-
-    fn look(alloc: Global, octets: &'a [u8], end: usize) -> Option<Refused> {
-        <N::Look as LooksInto<'a, P, T>>::look(alloc, octets, end)
     }
 }

@@ -3,7 +3,7 @@
 use crate::choices::InChoice;
 use crate::contents::{InImplicit, UnderTag};
 use crate::items::Items;
-use crate::looks::{Held, LookOf, LooksInto, LooksWithin, ReadAs, Whole};
+use crate::looks::{Held, LooksInto, LooksWithin, ReadAs, Whole};
 use crate::refused::{Refused, Step};
 use crate::rows::InPart;
 use crate::structs::InStruct;
@@ -49,13 +49,6 @@ impl<L: NamesSteps> NamesSteps for Held<L> {
 impl<T, L: NamesSteps> NamesSteps for ReadAs<T, L> {
     fn name_of(steps: &[Step]) -> Option<&'static str> {
         L::name_of(steps)
-    }
-}
-
-/// The author of `N` says the names that its look knows.
-impl<N: NamesSteps> NamesSteps for LookOf<N> {
-    fn name_of(steps: &[Step]) -> Option<&'static str> {
-        N::name_of(steps)
     }
 }
 
