@@ -14,6 +14,7 @@ BLOCK = re.compile(r"^```(rust|antt)\n(.*?)^```$", re.M | re.S)
 PLACES = {"rust": "src/**/*.rt", "antt": "specs/**/*.antt"}
 CRATES = [
     "asn1_rs_uses",
+    "asn1_rs_profiles",
     "asn1_rs_messages",
     "asn1_rs_kerberos",
     "asn1_rs_snmp",

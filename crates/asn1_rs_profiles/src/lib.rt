@@ -4,6 +4,7 @@
 //! - [`Signed`] keeps the octets of an element beside its value, since a signature is of octets.
 //! - [`Joined`] is a string that may come in pieces (X.690 8.7.3): its value is what they say.
 //! - [`Primitive`] is a string that may not.
+//! - [`next_message`] takes a message from the octets that a stream has brought.
 //! - [`read_strict`] takes only the one strict encoding of a value, and tells the first octet that differs from it.
 #![tactic(auto)]
 
@@ -15,6 +16,7 @@ mod joined;
 mod primitive;
 mod refined;
 mod signed;
+mod stream;
 mod strict;
 mod timestamp;
 mod usages;
@@ -35,6 +37,7 @@ pub use refined::{
 };
 pub use signed::laws::kept_octets_are_the_word;
 pub use signed::{Signed, SignedKind};
+pub use stream::next_message;
 pub use strict::{NotStrict, read_as_written, read_strict};
 pub use timestamp::{Microseconds, Timestamp, TimestampRow, read_timestamp, timestamp_vec};
 pub use usages::{

@@ -4,7 +4,6 @@ pub mod CountedItems
 pub mod JoinedNumbers
 pub mod LabelsUnwritten
 pub mod MidnightsRefused
-pub mod Streams
 pub mod TaggedOctets
 pub mod Unrefused
 pub mod Unwritten

@@ -24,7 +24,6 @@ mod row;
 mod sequences;
 mod serial_number;
 mod sets;
-mod stream;
 mod tagged_octets;
 mod version;
 
@@ -65,7 +64,6 @@ pub use sets::{
     are_same_counted, read_counted, read_distinct, read_signed, write_counted, write_distinct,
     write_signed,
 };
-pub use stream::next_message;
 pub use tagged_octets::{
     octets_handed_on, octets_handed_under, octets_under, optional_octets, string_under,
 };

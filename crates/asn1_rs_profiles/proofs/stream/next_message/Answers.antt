@@ -1,6 +1,6 @@
 use Rattle.std.specs.Prelude.{Err}
-use Rattle.asn1_rs_uses.proofs.Streams.{final_refusal, one_awaited}
-use Rattle.asn1_rs_uses.proofs.stream.next_message.Goals as goal
+use Rattle.asn1_rs_profiles.proofs.Streams.{final_refusal, one_awaited}
+use Rattle.asn1_rs_profiles.proofs.stream.next_message.Goals as goal
 
 pub returns-then-may_end_within_identifier-clause-waits : goal.returns-then-may_end_within_identifier-clause-waits
 returns-then-may_end_within_identifier-clause-waits g c =

@@ -6,8 +6,8 @@ ghost use Rattle.asn1_headers.specs.Error.{IsTruncated};
 ghost use Rattle.asn1_headers.specs.declared.error.Err.TheVariants.{Error as refused};
 ghost use Rattle.asn1_headers.specs.declared.error.Error.TheVariants as errors;
 ghost use Rattle.asn1_rs.specs.Any.{RefusalLasts};
-ghost use Rattle.asn1_rs_uses.specs.Stream.{IsAwaited, NoElementBegins, AnElementBegins};
-ghost use Rattle.asn1_rs_uses.specs.Stream.{RefusesMessage};
+ghost use Rattle.asn1_rs_profiles.specs.Stream.{IsAwaited, NoElementBegins, AnElementBegins};
+ghost use Rattle.asn1_rs_profiles.specs.Stream.{RefusesMessage};
 
 use asn1_rs::laws::{answers_last, any_is_the_element, beginnings_are_incomplete};
 use asn1_rs::{Any, Err, Error, FromDer, Needed, ParseResult};

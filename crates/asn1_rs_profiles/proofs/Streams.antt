@@ -12,7 +12,7 @@ use Rattle.asn1_headers.specs.declared.error.Needed.TheVariants.{Size, Unknown}
 use Rattle.asn1_headers.specs.declared.error.Error.{Error}
 use Rattle.asn1_headers.specs.declared.error.Error.TheVariants as errors
 use Rattle.asn1_rs.specs.Any.{RefusalLasts}
-use Rattle.asn1_rs_uses.specs.Stream.{NoElementBegins}
+use Rattle.asn1_rs_profiles.specs.Stream.{NoElementBegins}
 
 -- an identifier has six octets at most
 six_octets : (octets : List ℕ) (id : Identifier) → IsIdentifier octets id → length octets ≤ 6
