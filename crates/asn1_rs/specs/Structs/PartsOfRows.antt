@@ -18,7 +18,7 @@ module _ {S T : Type 0} (as_row : T → S) where
     IsDer = R.IsDer;
     Takes = R.Takes;
     Strict = R.Strict;
-    numbers = R.numbers;
+    tags = R.tags;
     told = R.told;
     allocates = R.allocates;
   }
