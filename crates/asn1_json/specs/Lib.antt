@@ -5,6 +5,7 @@ pub mod Tokens
 pub mod Walk
 pub mod Shown
 pub mod Numerals
+pub mod ArcTexts
 pub mod Found
 pub mod Made
 pub mod DenotedLeaves

@@ -1,6 +1,6 @@
 //! Values without parts, from JSON.
 ghost use Rattle.std.specs.Prelude.{ℤ, Bool, [], ◌≡◌, ◌<◌, ◌++◌, true};
-ghost use Rattle.std.specs.Prelude.{false, Some, IfOk, IfSome, MatchResult, OnOk, length};
+ghost use Rattle.std.specs.Prelude.{false, Some, IfOk, MatchResult, OnOk, length};
 ghost use Rattle.x690.specs.Strict.{header_octets};
 ghost use Rattle.std.specs.declared.vec.Vec.{Vec};
 ghost use Rattle.std.specs.declared.alloc.Global.{Global};
@@ -11,6 +11,7 @@ ghost use Rattle.asn1_schema.specs.Sound.{is_sound};
 ghost use Rattle.asn1_schema.specs.Tape.{leaf_mark, mark, marks};
 ghost use Rattle.asn1_schema.specs.Values.{LeafValue, Value as SpecValue, leaf};
 ghost use Rattle.asn1_json.specs.DenotedLeaves.{DenotesIdentifier};
+ghost use Rattle.asn1_json.specs.Found.{FindsOnly};
 ghost use Rattle.asn1_json.specs.Made.{tape_of_value};
 ghost use Rattle.asn1_json.specs.Outcomes.{DenotesSimple, HasWord, IsElementFound, Makes, ReadsDenoted, ReadsLeaf};
 ghost use Rattle.asn1_json.specs.Types.{labels_at};
@@ -237,8 +238,7 @@ fn read_octets(
 
 /// The contents octets of an identifier: by its arcs, or in hexadecimal where these are too large to be shown.
 fn content_of(alloc: Global, relative: bool, text: &str) -> Result<Option<Vec<u8>>, AllocError>
-    ensures { IfOk result (λ found. IfSome found
-        (λ content. DenotesIdentifier relative text.now content.items)) }
+    ensures { IfOk result (FindsOnly (λ content. content.items) (DenotesIdentifier relative text.now)) }
 {
     if has_arcs(relative, text) {
         return identifier_content(alloc, relative, text);
@@ -256,8 +256,8 @@ fn read_identifier(
     trail: &mut Trail,
 ) -> Result<(), Fault>
     requires sound { is_sound by.types.table.now ≡ true }
-    ensures { OnOk result (Makes (DenotesSimple [] (kinds.Identifier relative)
-        (value_view value.now)) made.old made.new) }
+    ensures { ReadsLeaf by.entry of [] (kinds.Identifier relative) (value_view value.now)
+        made.old made.new result }
 {
     let Value::String(text) = value else {
         return Err(trail.refused(of, Reason::Identifier));

@@ -51,3 +51,8 @@ pub returns-in-Any : goal.returns-in-Any
 returns-in-Any c =
     subst (λ (k : Kind). OnOk c.read_element.result (Makes (DenotesSimple (labels_at c.args.by.types.names.now (Some c.args.at)) k (value_view c.args.value.now))
     c.args.made.now c.read_element.new.made)) (sym c.in-Any.is) (reads_makes _ _ _ _ c.read_element.result c.read_element.ensures)
+
+pub returns-in-Identifier : goal.returns-in-Identifier
+returns-in-Identifier c =
+    subst (λ (k : Kind). OnOk c.read_identifier.result (Makes (DenotesSimple (labels_at c.args.by.types.names.now (Some c.args.at)) k (value_view c.args.value.now))
+    c.args.made.now c.read_identifier.new.made)) (sym c.in-Identifier.is) (reads_makes _ _ _ _ c.read_identifier.result c.read_identifier.ensures)
