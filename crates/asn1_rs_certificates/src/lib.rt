@@ -14,7 +14,9 @@ mod signed;
 mod signed_data;
 mod signer;
 mod single_response;
+mod stamp_answer;
 mod stamp_details;
+mod stamp_request;
 mod status;
 mod time_stamp;
 mod times;
@@ -53,9 +55,18 @@ pub use status::{
     ResponseBytes, ResponseBytesRow, TaggedResponseBytes, basic_response_vec, ocsp_response_vec,
     read_basic_response, read_ocsp_response,
 };
+pub use times::year_of;
+pub use verified::{SignedCertificate, SignedCertificateRow, read_signed_certificate};
+
+// Time stamps.
+pub use stamp_answer::{
+    PkiStatusInfo, PkiStatusRow, TimeStampResp, TimeStampRespRow, read_stamp_answer,
+    stamp_answer_vec,
+};
+pub use stamp_request::{
+    RequestExtensions, TimeStampReq, TimeStampReqRow, read_stamp_request, stamp_request_vec,
+};
 pub use time_stamp::{
     MessageImprint, MessageImprintRow, StampAuthority, StampExtensions, TstInfo, TstInfoRow,
     read_tst_info, tst_info_vec,
 };
-pub use times::year_of;
-pub use verified::{SignedCertificate, SignedCertificateRow, read_signed_certificate};
