@@ -103,7 +103,7 @@ impl<T: WritesElement> ToldByTagBy<ElementKind> for T {
         is_tag(0, T::TAG.0, class, tag)
     }
 
-    ghost told_by_kind = { one_tag T.grammar.Form 0 (T.TAG).0
+    ghost told_by_kind = { one_tag _ 0 (T.TAG).0
         (universal_class T.element (T.TAG).0 T.octets T.is_refused T.written)
         (universal_number T.element (T.TAG).0 T.octets T.is_refused T.written) };
 }
@@ -149,7 +149,7 @@ where
         is_tag(0, L::TAG.0, class, tag)
     }
 
-    ghost told_by_kind = { one_tag L.grammar.Form 0 (L.TAG).0 (list_class T.grammar.Form (L.TAG).0)
+    ghost told_by_kind = { one_tag _ 0 (L.TAG).0 (list_class T.grammar.Form (L.TAG).0)
         (list_number T.grammar.Form (L.TAG).0) };
 }
 
@@ -165,7 +165,7 @@ where
         is_tag(0, L::TAG.0, class, tag)
     }
 
-    ghost told_by_kind = { one_tag L.grammar.Form 0 (L.TAG).0 (set_class set_of AllDiffer T.grammar.Form)
+    ghost told_by_kind = { one_tag _ 0 (L.TAG).0 (set_class set_of AllDiffer T.grammar.Form)
         (λ v i c f. set_number set_of AllDiffer T.grammar.Form v i c f ∙ sym L.is_set) };
 }
 
@@ -189,7 +189,7 @@ impl<T: LawfulStruct> ToldByTagBy<FieldsKind> for T {
         is_tag(0, 16, class, tag)
     }
 
-    ghost told_by_kind = { one_tag T.grammar.Form 0 16 (struct_class T.laws.row.grammar)
+    ghost told_by_kind = { one_tag _ 0 16 (struct_class T.laws.row.grammar)
         (struct_number T.laws.row.grammar) };
 }
 
