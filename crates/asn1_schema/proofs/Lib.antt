@@ -62,3 +62,4 @@ pub mod StrictWords
 pub mod Appended
 pub mod Told
 pub mod JoinedBits
+pub mod InnerParts

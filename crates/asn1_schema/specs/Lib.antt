@@ -23,3 +23,4 @@ pub mod Writing
 pub mod Encoding
 pub mod Differing
 pub mod Refusals
+pub mod RefusedParts

@@ -37,6 +37,7 @@ mod put_rows;
 mod put_strings;
 mod reading;
 pub mod refusal;
+pub mod refused;
 mod rows;
 pub mod same;
 pub mod schema;
