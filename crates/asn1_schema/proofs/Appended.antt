@@ -17,6 +17,17 @@ appends_nothing tape = record {
   marks = λ more. sym (append-nil (owned_with tape more));
 }
 
+-- nor where octets are put that no item has
+pub appends_octets : (old new : OwnedTape) (own : List ℕ) → new.octets.items ≡ old.octets.items ++ own →
+    new.items.items ≡ old.items.items → Appends old new []
+appends_octets old new own behind same = record {
+  octets = own;
+  behind = behind;
+  marks = λ more. ap (λ (l : List Placed). map (placed_mark (new.octets.items ++ more)) l) same
+      ∙ ap (λ (o : List ℕ). map (placed_mark (o ++ more)) old.items.items) behind
+      ∙ ap (λ (o : List ℕ). map (placed_mark o) old.items.items) (append_assoc old.octets.items own more) ∙ sym (append-nil (owned_with old (own ++ more)));
+}
+
 -- first the ones and then the others
 pub appends_both : (old mid new : OwnedTape) (ms ns : List Mark) → Appends old mid ms → Appends mid new ns →
     Appends old new (ms ++ ns)
@@ -68,7 +79,7 @@ item_more front own more items p item start len is shape =
     ∙ map-append (placed_mark all) items (p ∷ [])
     ∙ ap (λ (m : Mark). map (placed_mark all) items ++ m ∷ []) last
 
-unmarked : (f g : Placed → Mark) (ps : List Placed) → map f ps ≡ [] → map g ps ≡ []
+pub unmarked : (f g : Placed → Mark) (ps : List Placed) → map f ps ≡ [] → map g ps ≡ []
 unmarked f g [] none = refl
 unmarked f g (p ∷ ps) none = absurd (cc)
 

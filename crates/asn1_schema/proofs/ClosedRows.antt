@@ -1,5 +1,5 @@
 -- Rows on a tape.
-use Rattle.std.proofs.Common.{◌≡◌, ◌∙◌, ap, sym, refl, ℕ, zero, suc, ◌-◌, List, [], ◌∷◌, ◌++◌, append_assoc, length, length-append, arith}
+use Rattle.std.proofs.Common.{◌≡◌, ◌∙◌, ap, sym, refl, ℕ, zero, suc, ◌-◌, List, [], ◌∷◌, ◌++◌, append_assoc, length, length-append, arith, map}
 use Rattle.std.specs.Prelude.{slice_set}
 use Rattle.std.proofs.lemmas.List.{length-map}
 use Rattle.asn1_schema.specs.declared.tape.Item.{Item}
@@ -10,21 +10,26 @@ pub marks_append : (xs ys : List Item) → marks (xs ++ ys) ≡ marks xs ++ mark
 marks_append [] ys = refl
 marks_append (x ∷ xs) ys = ap (λ (z : List Mark). mark x ∷ z) (marks_append xs ys)
 
--- an item is put in the place of one behind so many others
+-- one is put in the place of another behind so many others
+pub set_mapped : {A : Type 0} (f : A → Mark) (xs : List A) (front inner : List Mark) (m : Mark) (x : A) (i : ℕ) →
+    i ≡ length front → map f xs ≡ front ++ m ∷ inner → map f (slice_set xs i x) ≡ front ++ f x ∷ inner
+set_mapped f [] [] inner m x i l e = absurd (cc)
+set_mapped f [] (n ∷ front) inner m x i l e = absurd (cc)
+set_mapped f (y ∷ ys) [] inner m x zero l e =
+    let rest : map f ys ≡ inner = cc in ap (λ (z : List Mark). f x ∷ z) rest
+set_mapped f (y ∷ ys) [] inner m x (suc i) l e = absurd (omega (arith, l))
+set_mapped f (y ∷ ys) (n ∷ front) inner m x zero l e = absurd (omega (arith, l))
+set_mapped f (y ∷ ys) (n ∷ front) inner m x (suc i) l e =
+    let first : f y ≡ n = cc in
+    let rest : map f ys ≡ front ++ m ∷ inner = cc in
+    let count : i ≡ length front = omega (arith, l) in
+    let others = set_mapped f ys front inner m x i count rest in
+    cc
+
+-- so of items
 pub set_mark : (xs : List Item) (front inner : List Mark) (m : Mark) (x : Item) (i : ℕ) → i ≡ length front →
     marks xs ≡ front ++ m ∷ inner → marks (slice_set xs i x) ≡ front ++ mark x ∷ inner
-set_mark [] [] inner m x i l e = absurd (cc)
-set_mark [] (f ∷ front) inner m x i l e = absurd (cc)
-set_mark (y ∷ ys) [] inner m x zero l e =
-    let rest : marks ys ≡ inner = cc in ap (λ (z : List Mark). mark x ∷ z) rest
-set_mark (y ∷ ys) [] inner m x (suc i) l e = absurd (omega (arith, l))
-set_mark (y ∷ ys) (f ∷ front) inner m x zero l e = absurd (omega (arith, l))
-set_mark (y ∷ ys) (f ∷ front) inner m x (suc i) l e =
-    let first : mark y ≡ f = cc in
-    let rest : marks ys ≡ front ++ m ∷ inner = cc in
-    let n : i ≡ length front = omega (arith, l) in
-    let others = set_mark ys front inner m x i n rest in
-    cc
+set_mark = set_mapped mark
 
 -- a row is ended, and how many marks it has is written at its beginning
 pub row_closed : (xs ys : List Item) (place count : ℕ) (front inner : List Mark) → marks xs ≡ front ++ begin_mark 0 ∷ inner →

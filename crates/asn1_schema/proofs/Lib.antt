@@ -63,3 +63,10 @@ pub mod Appended
 pub mod Told
 pub mod JoinedBits
 pub mod InnerParts
+pub mod Beneath
+pub mod MadeItems
+pub mod MadeValues
+pub mod MadeParts
+pub mod MakerSteps
+pub mod TrimmedBits
+pub mod ClosedTapes

@@ -24,3 +24,4 @@ pub mod Encoding
 pub mod Differing
 pub mod Refusals
 pub mod RefusedParts
+pub mod Making

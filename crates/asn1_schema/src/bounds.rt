@@ -112,7 +112,7 @@ fn large_size_within(size: u128, lower: Option<i128>, upper: Option<i128>) -> Re
 }
 
 /// Judges a size, which is at least so much where this is the greatest number.
-fn size_within(size: u128, lower: Option<i128>, upper: Option<i128>) -> Result<(), Fault>
+pub(crate) fn size_within(size: u128, lower: Option<i128>, upper: Option<i128>) -> Result<(), Fault>
     ensures { (n : ℕ) → size ≡ min n (2 ^ 128 - 1) → JudgesBounds lower upper (Some (pos n)) result }
 {
     if size >= 1 << 127 {
@@ -137,7 +137,11 @@ fn pieces_within(pieces: &[Item<'_>], lower: Option<i128>, upper: Option<i128>) 
 
 /// Judges the value that begins with an item, but for rows and pieces. One that has neither a number nor a size is
 /// within no bounds, and so is that of a choice.
-fn item_within(item: Item<'_>, lower: Option<i128>, upper: Option<i128>) -> Result<(), Fault>
+pub(crate) fn item_within(
+    item: Item<'_>,
+    lower: Option<i128>,
+    upper: Option<i128>,
+) -> Result<(), Fault>
     ensures { JudgesItem lower upper (mark item.entry) result }
 {
     match item {

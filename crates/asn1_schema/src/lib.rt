@@ -4,6 +4,7 @@
 
 mod alike;
 mod any;
+mod asked;
 mod bits;
 mod bitwise;
 mod bounds;
@@ -17,11 +18,13 @@ mod elements;
 pub mod encode;
 mod endings;
 mod fault;
+mod fitting;
 mod fronts;
 mod identifiers;
 mod joined;
 pub mod laws;
 mod leaves;
+pub mod making;
 mod missing;
 mod moments;
 mod named;

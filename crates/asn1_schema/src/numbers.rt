@@ -1,6 +1,6 @@
 //! Truth values, no value, integers and listed numbers (X.690 8.2 to 8.4, 8.8).
 ghost use Rattle.asn1_schema.specs.declared.schema.Kind.TheVariants as kinds;
-ghost use Rattle.std.specs.Prelude.{ℕ, ℤ, List, ◌≡◌, Bool, IfSome, IfNone, IsTrue, Contains};
+ghost use Rattle.std.specs.Prelude.{ℕ, ℤ, List, ◌≡◌, ◌⊎◌, ◌↔◌, true, Bool, IfSome, IfNone, IsTrue, Contains};
 ghost use Rattle.x690.specs.Integers.{IsIntegerContent};
 ghost use Rattle.x690.specs.Digits.{twos_complement_value};
 ghost use Rattle.x690.specs.Signed.{IsSigned};
@@ -130,6 +130,23 @@ fn are_all_held(numbers: &[i128])
     }
 }
 
+/// Whether the integer that octets say is one of these, or any may be.
+pub(crate) fn is_of_the_listed(numbers: &[i128], extensible: bool, content: &[u8]) -> bool
+    ensures { IsTrue result ↔
+        ((extensible ≡ true) ⊎ Contains numbers.now (twos_complement_value content.now)) }
+{
+    if extensible {
+        return true;
+    }
+    match signed_number(content, 16) {
+        None => {
+            are_all_held(numbers);
+            false
+        }
+        Some(n) => is_listed_number(numbers, n),
+    }
+}
+
 /// A number that is listed.
 pub(crate) fn enumerated_item<'a>(
     numbers: &[i128],
@@ -145,19 +162,8 @@ pub(crate) fn enumerated_item<'a>(
     if !is_integer(content) {
         return Err(Fault::Refused);
     }
-    if extensible {
-        return Ok(Item::Enumerated(content));
+    if !is_of_the_listed(numbers, extensible, content) {
+        return Err(Fault::Refused);
     }
-    match signed_number(content, 16) {
-        None => {
-            are_all_held(numbers);
-            Err(Fault::Refused)
-        }
-        Some(n) => {
-            if !is_listed_number(numbers, n) {
-                return Err(Fault::Refused);
-            }
-            Ok(Item::Enumerated(content))
-        }
-    }
+    Ok(Item::Enumerated(content))
 }

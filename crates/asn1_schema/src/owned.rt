@@ -1,5 +1,8 @@
 //! Tapes that own their octets. They outlive what they were copied from, and may be made item by item.
-ghost use Rattle.std.specs.Prelude.{ℕ, List, [], ◌∷◌, ◌≡◌, ◌↔◌, OnOk, IfOk, IsTrue, length, drop};
+ghost use Rattle.std.specs.Prelude.{ℕ, List, [], ◌∷◌, ◌≡◌, ◌↔◌, OnOk, OnErr, IfOk, IsTrue, length};
+ghost use Rattle.std.specs.Prelude.{drop};
+ghost use Rattle.asn1_schema.specs.declared.tape.Item.TheVariants as items;
+ghost use Rattle.asn1_schema.specs.Making.{ClosesRow};
 ghost use Rattle.asn1_schema.specs.Tape.{Mark, begin_mark, between, end_mark, mark, marks};
 ghost use Rattle.asn1_schema.specs.Owned.{Appends, lent, item_with_octets, span, owned_marks};
 
@@ -84,6 +87,17 @@ fn items_from(items: &[Placed], start: usize) -> &[Placed]
     items.split_at(start.min(items.len())).1
 }
 
+/// The item that begins a row of so many.
+fn begin_of(count: usize) -> Placed
+    ensures { result.shape ≡ items.Begin count }
+{
+    Placed {
+        shape: Item::Begin(count),
+        start: 0,
+        len: 0,
+    }
+}
+
 impl OwnedTape {
     /// A tape with no items.
     pub fn new(alloc: Global) -> OwnedTape
@@ -120,7 +134,8 @@ impl OwnedTape {
 
     /// Puts an item behind the others, and its octets behind theirs.
     pub fn push(&mut self, item: &Item<'_>) -> Result<(), AllocError>
-        ensures { OnOk result (Appends self.old self.new (mark item.now ∷ [])) }
+        ensures ok { OnOk result (Appends self.old self.new (mark item.now ∷ [])) }
+        ensures err { OnErr result (Appends self.old self.new []) }
     {
         let octets = octets_lent(item);
         let start = self.octets.len();
@@ -139,6 +154,19 @@ impl OwnedTape {
     {
         for item in tape {
             self.push(item)?;
+        }
+        Ok(())
+    }
+
+    /// Ends the row that begins at a place, with all items behind that one.
+    pub(crate) fn close_row(&mut self, place: usize) -> Result<(), AllocError>
+        ensures closed { OnOk result (ClosesRow place self.old self.new) }
+        ensures err { OnErr result (Appends self.old self.new []) }
+    {
+        let inner = self.items.len().saturating_sub(place).saturating_sub(1);
+        self.push(&Item::End(inner))?;
+        if place < self.items.len() {
+            self.items[place] = begin_of(inner);
         }
         Ok(())
     }

@@ -1,0 +1,10 @@
+use Rattle.std.proofs.Common.{refl}
+use Rattle.asn1_schema.proofs.MakerSteps.{by_answer, absent_put, stays}
+use Rattle.asn1_schema.proofs.making.ValueMaker.absent.Goals as goal
+
+pub returns-clause-making : goal.returns-clause-making
+returns-clause-making c = λ table of m.
+    by_answer c.go_on.result _ _ _ c.go_on.ensures.ok c.go_on.ensures.err
+    (λ s. absent_put table of c.args.self.now c.go_on.new.self m c.without_field.result s c.without_field.ensures.part
+    c.without_field.ensures.size (c.if-not-is_optional.ensures.0 refl))
+    (λ s. stays table of c.args.self.now c.go_on.new.self m s)
