@@ -2,7 +2,7 @@
 use Rattle.std.proofs.Common.{◌≡◌, ◌∙◌, ap, sym, subst, refl, ℕ, zero, suc, ◌+◌, ◌-◌, ◌*◌, ◌<◌, ◌≤◌, min, inl, inr, Bool, true, false, List, [], ◌∷◌, ◌++◌, append_assoc, append-nil, length, length-append, arith}
 use Rattle.std.specs.Prelude.{◌⊎◌, Option, Some, None, slice_get, Result, Ok, Err, IfOk, IfSome, IfNone}
 use Rattle.std.specs.declared.alloc.AllocError.{AllocError}
-use Rattle.std.proofs.lemmas.Bool.{cases_lt}
+use Rattle.std.proofs.lemmas.Bool.{cases_lt, false≢true}
 use Rattle.std.proofs.lemmas.List.{length-map}
 use Rattle.std.proofs.Math.Nat.{min-le_right}
 use Rattle.asn1_schema.specs.declared.schema.Field.{Field}
@@ -97,6 +97,21 @@ no_type_behind (f ∷ fs) others zero j l e = absurd (cc)
 no_type_behind (f ∷ fs) others (suc i) zero l e = absurd (omega (arith, l))
 no_type_behind (f ∷ fs) others (suc i) (suc j) l e = no_type_behind fs others i j (omega (arith, l)) e
 
+no_field_behind : (fields : List Field) (i j : ℕ) → i ≤ j → slice_get fields i ≡ None → slice_get fields j ≡ None
+no_field_behind [] i j l e = refl
+no_field_behind (f ∷ fs) zero j l e = absurd (cc)
+no_field_behind (f ∷ fs) (suc i) zero l e = absurd (omega (arith, l))
+no_field_behind (f ∷ fs) (suc i) (suc j) l e = no_field_behind fs i j (omega (arith, l)) e
+
+no_marks : (ms : List Mark) → length ms ≡ 0 → ms ≡ []
+no_marks [] e = refl
+no_marks (m ∷ ms) e = absurd (omega (arith, e))
+
+-- the member in front of these marks is left out, and may be, or has a strict encoding
+abbrev pub IsWellPut : List Node → ℕ → Option Field → ℕ → List Mark → Type 0
+IsWellPut table depth told of s = ((ms : List Mark) × (s ≡ absent_mark ∷ ms) × (may_be_absent told ≡ true)) ⊎
+    ((kept : Kept) × (ms : List Mark) × MarksHaveWord (Word strict table depth of) (tape_of kept) × (s ≡ tape_of kept ++ ms))
+
 -- Members so far have strict encodings, or are left out.
 pub record MembersSoFar (table : List Node) (depth : ℕ) (fields : List Field) (others : Option ℕ)
     (inner rest : List Item) (place : ℕ) : Type 0 where
@@ -104,10 +119,10 @@ pub record MembersSoFar (table : List Node) (depth : ℕ) (fields : List Field) 
   pub parts : marks inner ≡ tapes_of front ++ marks rest
   pub counted : member_count (values_of front) ≡ place
   pub fewer : length rest ≤ length inner
-  pub done : (ks : KeptRow) (kept : Kept) (back : List Mark) (of : ℕ) →
-      marks inner ≡ tapes_of ks ++ (tape_of kept ++ back) → member_count (values_of ks) < place →
+  pub done : (ks : KeptRow) (s : List Mark) (of : ℕ) → marks inner ≡ tapes_of ks ++ s →
+      member_count (values_of ks) < place →
       type_of_member (slice_get fields (member_count (values_of ks))) others ≡ Some of →
-      MarksHaveWord (Word strict table depth of) (tape_of kept)
+      IsWellPut table depth (slice_get fields (member_count (values_of ks))) of s
 
 pub no_members : (table : List Node) (depth : ℕ) (fields : List Field) (others : Option ℕ) (inner : List Item) →
     MembersSoFar table depth fields others inner inner 0
@@ -116,8 +131,14 @@ no_members table depth fields others inner = record {
   parts = refl;
   counted = refl;
   fewer = omega arith;
-  done = λ ks kept back of e l t. absurd (omega (arith, l));
+  done = λ ks s of e l t. absurd (omega (arith, l));
 }
+
+-- no member stands behind those in front of this place
+abbrev pub NoneFollow : List Field → Option ℕ → List Item → ℕ → Type 0
+NoneFollow fields others inner place = (ks : KeptRow) (s : List Mark) (t : ℕ) → marks inner ≡ tapes_of ks ++ s →
+    place ≤ member_count (values_of ks) → type_of_member (slice_get fields (member_count (values_of ks))) others ≡ Some t →
+    (s ≡ [] → slice_get fields (member_count (values_of ks)) ≡ None → ⊥) → ⊥
 
 module _ (table : List Node) (depth : ℕ) (fields : List Field) (others : Option ℕ) (inner rest : List Item) (place : ℕ)
     (so_far : MembersSoFar table depth fields others inner rest place) where
@@ -131,9 +152,9 @@ module _ (table : List Node) (depth : ℕ) (fields : List Field) (others : Optio
 
   -- one member more
   module _ (items behind : List Item) (joined : rest ≡ items ++ behind) (of : ℕ)
-      (value : (kept : Kept) (ms : List Mark) → marks rest ≡ tape_of kept ++ ms → marks items ≡ tape_of kept)
       (type : type_of_member (slice_get fields place) others ≡ Some of)
-      (told : (marks items ≡ absent_mark ∷ []) ⊎ MarksHaveWord (Word strict table depth of) (marks items)) where
+      (told : ((marks items ≡ absent_mark ∷ []) × (may_be_absent (slice_get fields place) ≡ true)) ⊎
+      MarksHaveWord (Word strict table depth of) (marks items)) where
     rest_marks : marks rest ≡ marks items ++ marks behind
     rest_marks = ap marks joined ∙ map_joined items behind
       where
@@ -143,20 +164,24 @@ module _ (table : List Node) (depth : ℕ) (fields : List Field) (others : Optio
 
     one_row : (ks : KeptRow) × (tapes_of ks ≡ marks items) × (member_count (values_of ks) ≡ 1)
     one_row = elim told [
-      | inl a ↦ (kept_absent kept_none, sym a, refl)
+      | inl a ↦ (kept_absent kept_none, sym a.0, refl)
       | inr w ↦ (kept_more w.1 kept_none, append-nil (tape_of w.1) ∙ sym w.3, refl)
     ]
 
-    this_member : (kept : Kept) (back : List Mark) (t : ℕ) → marks rest ≡ tape_of kept ++ back →
-        type_of_member (slice_get fields place) others ≡ Some t → MarksHaveWord (Word strict table depth t) (tape_of kept)
-    this_member kept back t e u =
-        let is = value kept back e in
+    this_member : (s : List Mark) (t : ℕ) → marks rest ≡ s → type_of_member (slice_get fields place) others ≡ Some t →
+        IsWellPut table depth (slice_get fields place) t s
+    this_member s t e u =
         let f = sym type ∙ u in
         let same : of ≡ t = cc in
         elim told [
-          | inl a ↦ absurd (never_absent kept [] [] (append-nil (tape_of kept) ∙ (sym is ∙ a)))
-          | inr w ↦ subst (λ (n : ℕ). MarksHaveWord (Word strict table depth n) (tape_of kept)) same
-              (subst (λ (ms : List Mark). MarksHaveWord (Word strict table depth of) ms) is w)
+          | inl a ↦ inl (marks behind, sym e ∙ (rest_marks ∙ ap (λ (z : List Mark). z ++ marks behind) a.0), a.1)
+          | inr w ↦ inr (
+            w.1,
+            marks behind,
+            subst (λ (n : ℕ). MarksHaveWord (Word strict table depth n) (tape_of w.1)) same
+                (subst (λ (ms : List Mark). MarksHaveWord (Word strict table depth of) ms) w.3 w),
+            sym e ∙ (rest_marks ∙ ap (λ (z : List Mark). z ++ marks behind) w.3),
+          )
         ]
 
     pub one_member : MembersSoFar table depth fields others inner behind (place + 1)
@@ -175,39 +200,31 @@ module _ (table : List Node) (depth : ℕ) (fields : List Field) (others : Optio
               ap (λ (z : List Mark). z ++ marks behind) (sym (tapes_joined so_far.front one.0))));
           counted = omega (arith, c, n, j);
           fewer = omega (arith, size, few);
-          done = λ ks kept back t e l u. elim (cases_lt (member_count (values_of ks)) place) [
-            | inl a ↦ so_far.done ks kept back t e a u
+          done = λ ks s t e l u. elim (cases_lt (member_count (values_of ks)) place) [
+            | inl a ↦ so_far.done ks s t e a u
             | inr b ↦
-                let m = left_of ks (tape_of kept ++ back) e b in
+                let m = left_of ks s e b in
                 let k = m.2 in
                 let at : member_count (values_of ks) ≡ place = omega (arith, l, b) in
                 let none = none_behind m.0 (omega (arith, k, c, at)) in
-                this_member kept back t
-                (m.1 ∙ ap (λ (z : List Mark). z ++ (tape_of kept ++ back)) none)
-                (subst (λ (i : ℕ). type_of_member (slice_get fields i) others ≡ Some t) at u)
+                subst (λ (i : ℕ). IsWellPut table depth (slice_get fields i) t s) (sym at)
+                (this_member s t (m.1 ∙ ap (λ (z : List Mark). z ++ s) none)
+                (subst (λ (i : ℕ). type_of_member (slice_get fields i) others ≡ Some t) at u))
           ];
         }
 
-  -- none follows where no items do
-  pub none_follow : length rest ≡ 0 → (ks : KeptRow) (kept : Kept) (back : List Mark) (t : ℕ) →
-      marks inner ≡ tapes_of ks ++ (tape_of kept ++ back) → place ≤ member_count (values_of ks) →
-      type_of_member (slice_get fields (member_count (values_of ks))) others ≡ Some t → ⊥
-  none_follow z ks kept back t e l u =
-      let m = left_of ks (tape_of kept ++ back) e l in
+  -- none follows where no items do, and no field
+  pub none_follow : length rest ≡ 0 → slice_get fields place ≡ None → NoneFollow fields others inner place
+  none_follow z n ks s t e l u there =
+      let m = left_of ks s e l in
       let a = length-map rest mark in
       let b = ap (λ (ms : List Mark). length ms) m.1 in
-      let c = length-append (tapes_of m.0) (tape_of kept ++ back) in
-      let d = length-append (tape_of kept) back in
-      let f = few_members (kept_more kept kept_none) in
-      let g = ap (λ (ms : List Mark). length ms) (append-nil (tape_of kept)) in
-      absurd (omega (arith, z, a, b, c, d, f, g))
+      let c = length-append (tapes_of m.0) s in
+      there (no_marks s (omega (arith, z, a, b, c))) (no_field_behind fields place (member_count (values_of ks)) l n)
 
   -- none that has a type follows where one has none
-  pub no_type_follows : type_of_member (slice_get fields place) others ≡ None → (ks : KeptRow) (kept : Kept)
-      (back : List Mark) (t : ℕ) → marks inner ≡ tapes_of ks ++ (tape_of kept ++ back) →
-      place ≤ member_count (values_of ks) →
-      type_of_member (slice_get fields (member_count (values_of ks))) others ≡ Some t → ⊥
-  no_type_follows n ks kept back t e l u =
+  pub no_type_follows : type_of_member (slice_get fields place) others ≡ None → NoneFollow fields others inner place
+  no_type_follows n ks s t e l u there =
       let f = sym (no_type_behind fields others place (member_count (values_of ks)) l n) ∙ u in
       absurd (cc (f))
 
@@ -226,23 +243,21 @@ module _ (table : List Node) (fields : List Field) (others : Option ℕ) (p : Ta
     (row : p.items ≡ between (begin_mark n) (marks inner) (end_mark m)) where
   pub all_encodable : (rest : List Item) (place : ℕ) →
       (so_far : MembersSoFar table (p.depth - 1) fields others inner rest place) →
-      ((ks : KeptRow) (kept : Kept) (back : List Mark) (t : ℕ) → marks inner ≡ tapes_of ks ++ (tape_of kept ++ back) →
-      place ≤ member_count (values_of ks) →
-      type_of_member (slice_get fields (member_count (values_of ks))) others ≡ Some t → ⊥) →
-      AreEncodable table (IsRowMember fields others p)
-  all_encodable rest place so_far none q kept i e =
+      NoneFollow fields others inner place → AreEncodable table (IsRowMember fields others p)
+  all_encodable rest place so_far none q i =
       let r = (between_is (begin_mark n) (end_mark m) (begin_mark i.begin) (end_mark i.end) (marks inner)
       (tapes_of i.front ++ i.rest) (sym row ∙ i.row)).1 in
-      let whole : marks inner ≡ tapes_of i.front ++ (tape_of kept ++ i.back) =
-      r ∙ ap (λ (z : List Mark). tapes_of i.front ++ z) (i.is ∙ ap (λ (z : List Mark). z ++ i.back) e) in
       let d : q.depth ≡ p.depth - 1 = ap (λ (z : TapePart). z.depth) i.part in
       let o : q.of ≡ i.of = ap (λ (z : TapePart). z.of) i.part in
       elim (cases_lt (member_count (values_of i.front)) place) [
-        | inl l ↦ subst (λ (ms : List Mark). MarksHaveWord (Word strict table q.depth q.of) ms) (sym e)
-            (subst (λ (k : ℕ). MarksHaveWord (Word strict table k q.of) (tape_of kept)) (sym d)
-            (subst (λ (t : ℕ). MarksHaveWord (Word strict table (p.depth - 1) t) (tape_of kept)) (sym o)
-            (so_far.done i.front kept i.back i.of whole l i.type)))
-        | inr g ↦ absurd (none i.front kept i.back i.of whole g i.type)
+        | inl l ↦ elim (so_far.done i.front i.rest i.of r l i.type) [
+          | inl a ↦ absurd (false≢true (sym (i.absent (i.left a.0 a.1)) ∙ a.2))
+          | inr w ↦ subst (λ (ms : List Mark). MarksHaveWord (Word strict table q.depth q.of) ms)
+              (sym (i.one w.0 w.1 w.3))
+              (subst (λ (k : ℕ). MarksHaveWord (Word strict table k q.of) (tape_of w.0)) (sym d)
+              (subst (λ (t : ℕ). MarksHaveWord (Word strict table (p.depth - 1) t) (tape_of w.0)) (sym o) w.2))
+        ]
+        | inr g ↦ absurd (none i.front i.rest i.of r g i.type i.there)
       ]
 
   -- what depends on the place of a member
@@ -255,12 +270,13 @@ module _ (table : List Node) (fields : List Field) (others : Option ℕ) (p : Ta
   pub is_member : (rest items behind : List Item) (place : ℕ) →
       (so_far : MembersSoFar table (p.depth - 1) fields others inner rest place) → rest ≡ items ++ behind →
       ((kept : Kept) (ms : List Mark) → marks rest ≡ tape_of kept ++ ms → marks items ≡ tape_of kept) →
+      ((ms : List Mark) → marks rest ≡ absent_mark ∷ ms → marks items ≡ absent_mark ∷ []) →
       (q : TapePart) (of first : ℕ) → q ≡ member_part (slice_get fields place) place of first (marks items) p →
       first ≡ suc (p.first + (length inner - length rest)) →
       (length rest ≡ 0 → slice_get fields place ≡ None → ⊥) →
       type_of_member (slice_get fields place) others ≡ Some of →
       (marks items ≡ absent_mark ∷ [] → may_be_absent (slice_get fields place) ≡ false) → IsRowMember fields others p q
-  is_member rest items behind place so_far joined value q of first is at there type absent =
+  is_member rest items behind place so_far joined value alone q of first is at there type absent =
       let same : q.items ≡ marks items = ap (λ (z : TapePart). z.items) is in
       let b = ap (λ (ms : List Mark). length ms) so_far.parts in
       let c = length-append (tapes_of so_far.front) (marks rest) in
@@ -284,6 +300,7 @@ module _ (table : List Node) (fields : List Field) (others : Option ℕ) (p : Ta
         row = row ∙ ap (λ (z : List Mark). between (begin_mark n) z (end_mark m)) so_far.parts;
         is = rest_marks rest items behind joined ∙ ap (λ (z : List Mark). z ++ marks behind) (sym same);
         one = λ kept ms z. same ∙ value kept ms z;
+        left = λ ms z. same ∙ alone ms z;
         there = here.0;
         type = here.1;
         absent = here.2;
@@ -298,17 +315,22 @@ module _ (table : List Node) (fields : List Field) (others : Option ℕ) (p : Ta
       rest_marks : (rest items behind : List Item) → rest ≡ items ++ behind → marks rest ≡ marks items ++ marks behind
       rest_marks rest items behind e = ap marks e ∙ map_joined items behind
 
-  pub member_told : (P : TapePart) (place of first : ℕ) (ms : List Mark) →
-      P ≡ member_part (slice_get fields place) place of first ms p → (o : Option RefusedPart) → o ≡ None →
-      IfNone o ((P.items ≡ absent_mark ∷ []) ⊎ IsEncodable table P) →
-      (ms ≡ absent_mark ∷ []) ⊎ MarksHaveWord (Word strict table (p.depth - 1) of) ms
-  member_told P place of first ms is o none told =
-      subst (λ (z : TapePart). (z.items ≡ absent_mark ∷ []) ⊎ IsEncodable table z) is
-      (subst (λ (x : Option RefusedPart). IfNone x ((P.items ≡ absent_mark ∷ []) ⊎ IsEncodable table P)) none told)
+  pub member_told : (P : TapePart) (place of first : ℕ) (ms : List Mark) (optional : Bool) →
+      P ≡ member_part (slice_get fields place) place of first ms p → optional ≡ may_be_absent (slice_get fields place) →
+      (o : Option RefusedPart) → o ≡ None →
+      IfNone o (((P.items ≡ absent_mark ∷ []) × (optional ≡ true)) ⊎ IsEncodable table P) →
+      ((ms ≡ absent_mark ∷ []) × (may_be_absent (slice_get fields place) ≡ true)) ⊎
+      MarksHaveWord (Word strict table (p.depth - 1) of) ms
+  member_told P place of first ms optional is may o none told =
+      subst (λ (b : Bool). ((ms ≡ absent_mark ∷ []) × (b ≡ true)) ⊎ MarksHaveWord (Word strict table (p.depth - 1) of) ms) may
+      (subst (λ (z : TapePart). ((z.items ≡ absent_mark ∷ []) × (optional ≡ true)) ⊎ IsEncodable table z) is
+      (subst (λ (x : Option RefusedPart). IfNone x (((P.items ≡ absent_mark ∷ []) × (optional ≡ true)) ⊎
+      IsEncodable table P)) none told))
 
   pub member_found : (rest items behind : List Item) (place : ℕ) →
       (so_far : MembersSoFar table (p.depth - 1) fields others inner rest place) → rest ≡ items ++ behind →
       ((kept : Kept) (ms : List Mark) → marks rest ≡ tape_of kept ++ ms → marks items ≡ tape_of kept) →
+      ((ms : List Mark) → marks rest ≡ absent_mark ∷ ms → marks items ≡ absent_mark ∷ []) →
       (P : TapePart) (of first : ℕ) (optional : Bool) →
       P ≡ member_part (slice_get fields place) place of first (marks items) p →
       first ≡ suc (p.first + (length inner - length rest)) →
@@ -317,11 +339,11 @@ module _ (table : List Node) (fields : List Field) (others : Option ℕ) (p : Ta
       optional ≡ may_be_absent (slice_get fields place) → (o : Option RefusedPart) (q : RefusedPart) → o ≡ Some q →
       IfSome o (λ z. (tape_part z ≡ P) × IsNotEncodable table P × (P.items ≡ absent_mark ∷ [] → optional ≡ false)) →
       FindsPart table (IsRowMember fields others p) (Ok (Some q))
-  member_found rest items behind place so_far joined value P of first optional is at there type may o q found told =
+  member_found rest items behind place so_far joined value alone P of first optional is at there type may o q found told =
       let some = subst (λ (x : Option RefusedPart). IfSome x (λ z. (tape_part z ≡ P) × IsNotEncodable table P ×
       (P.items ≡ absent_mark ∷ [] → optional ≡ false))) found told in
       let e = some.0 ∙ is in (
-        is_member rest items behind place so_far joined value (tape_part q) of first e at there type (λ z.
+        is_member rest items behind place so_far joined value alone (tape_part q) of first e at there type (λ z.
             sym may ∙ some.2 (ap (λ (y : TapePart). y.items) is ∙ z)),
         subst (λ (z : TapePart). IsNotEncodable table z) (sym some.0) some.1,
       )
@@ -498,10 +520,10 @@ pub found_own : (table : List Node) (p : TapePart) (node : Node) → node_at tab
     FindsPart table (IsOwnPart table p) r
 found_own table p node found some (Ok (Some q)) f =
     (record { node = node; found = found; some = some; own = f.0 }, f.1)
-found_own table p node found some (Ok None) f = λ q kept i e.
+found_own table p node found some (Ok None) f = λ q i.
     let g = sym found ∙ i.found in
     let same : node ≡ i.node = cc in
-    f q kept (subst (λ (n : Node). IsPartOfKind n.kind p q) (sym same) i.own) e
+    f q (subst (λ (n : Node). IsPartOfKind n.kind p q) (sym same) i.own)
 found_own table p node found some (Err e) f = tt
 
 module _ (table : List Node) (arms : List ℕ) (p : TapePart) (k : ℕ) (inner : List Mark)
@@ -535,7 +557,7 @@ module _ (table : List Node) (arms : List ℕ) (p : TapePart) (k : ℕ) (inner :
 
       one : IsEncodable table (record p { items = inner; first = suc p.first; of = t }) →
           AreEncodable table (IsArmPart arms p)
-      one w q kept i e =
+      one w q i =
           let s = same_arm q i in
           let g = sym type ∙ (ap (λ (j : ℕ). slice_get arms j) s.0 ∙ i.type) in
           let same : t ≡ q.of = cc (g) in
@@ -567,5 +589,5 @@ pub same_found : (table : List Node) (part : TapePart) (r : Result (Option Refus
     IfOk r (λ x. IfNone x (IsEncodable table part)) → FindsPart table (λ q. q ≡ part) r
 same_found table part (Ok (Some q)) some none =
     (some.0, subst (λ (z : TapePart). IsNotEncodable table z) (sym some.0) some.1)
-same_found table part (Ok None) some none = λ q kept i e. subst (λ (z : TapePart). IsEncodable table z) (sym i) none
+same_found table part (Ok None) some none = λ q i. subst (λ (z : TapePart). IsEncodable table z) (sym i) none
 same_found table part (Err e) some none = tt

@@ -97,7 +97,8 @@ member_part told place of first items p = record {
 }
 
 -- The part is a member of a row, behind others that are values or left out: the items of the value that stands there, if
--- one does. It has no items where its field is missing. A field that may be left out, and is, is none.
+-- one does, or the one item that says that it is left out. It has no items where its field is missing. A field that may
+-- be left out, and is, is none.
 pub record IsRowMember (fields : List Field) (others : Option ℕ) (p q : TapePart) : Type 0 where
   pub front : KeptRow
   pub rest : List Mark
@@ -108,6 +109,7 @@ pub record IsRowMember (fields : List Field) (others : Option ℕ) (p q : TapePa
   pub row : p.items ≡ between (begin_mark begin) (tapes_of front ++ rest) (end_mark end)
   pub is : rest ≡ q.items ++ back
   pub one : (kept : Kept) (ms : List Mark) → rest ≡ tape_of kept ++ ms → q.items ≡ tape_of kept
+  pub left : (ms : List Mark) → rest ≡ absent_mark ∷ ms → q.items ≡ absent_mark ∷ []
   pub there : rest ≡ [] → slice_get fields (member_count (values_of front)) ≡ None → ⊥
   pub type : type_of_member (slice_get fields (member_count (values_of front))) others ≡ Some of
   pub absent : q.items ≡ absent_mark ∷ [] → may_be_absent (slice_get fields (member_count (values_of front))) ≡ false
@@ -145,17 +147,17 @@ abbrev pub IsPartWithin : List Node → ℕ → TapePart → TapePart → Type 0
 IsPartWithin table zero p q = p ≡ q
 IsPartWithin table (suc n) p q = (m : TapePart) × IsPartWithin table n p m × IsOwnPart table m q
 
--- each of these parts that are values has a strict encoding
+-- each of these parts has a strict encoding
 abbrev pub AreEncodable : List Node → (TapePart → Type 0) → Type 0
-AreEncodable table Own = (q : TapePart) (kept : Kept) → Own q → q.items ≡ tape_of kept → IsEncodable table q
+AreEncodable table Own = (q : TapePart) → Own q → IsEncodable table q
 
--- One of these parts is found that has no strict encoding; or each has one that is a value.
+-- One of these parts is found that has no strict encoding; or each has one.
 abbrev pub FindsPart : List Node → (TapePart → Type 0) → Result (Option RefusedPart) AllocError → Type 0
 FindsPart table Own (Ok (Some q)) = Own (tape_part q) × IsNotEncodable table (tape_part q)
 FindsPart table Own (Ok None) = AreEncodable table Own
 FindsPart table Own (Err e) = Unit {0}
 
--- The innermost part of a tape that has no strict encoding: each of its own parts that is a value has one.
+-- The innermost part of a tape that has no strict encoding: each of its own parts has one.
 pub record IsInnermost (table : List Node) (whole q : TapePart) : Type 0 where
   pub steps : ℕ
   pub within : IsPartWithin table steps whole q

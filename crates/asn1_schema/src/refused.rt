@@ -208,7 +208,8 @@ fn unless_left_out<'t, 'a>(
     ensures some { IfOk result (λ r. IfSome r (λ found. (tape_part found ≡ tape_part part.entry)
         × IsNotEncodable table.now (tape_part part.entry)
         × ((tape_part part.entry).items ≡ absent_mark ∷ [] → optional ≡ false))) }
-    ensures none { IfOk result (λ r. IfNone r (((tape_part part.entry).items ≡ absent_mark ∷ [])
+    ensures none { IfOk result (λ r. IfNone r
+        (((tape_part part.entry).items ≡ absent_mark ∷ []) × (optional ≡ true)
         ⊎ IsEncodable table.now (tape_part part.entry))) }
 {
     if optional && is_absent(part.items) {
@@ -219,7 +220,7 @@ fn unless_left_out<'t, 'a>(
 
 /// Whether a place is behind the last field of a row, with no items left.
 fn is_behind(fields: &[Field], place: usize, rest: &[Item<'_>]) -> bool
-    ensures yes { IsTrue result → length rest.now ≡ 0 }
+    ensures yes { IsTrue result → (length rest.now ≡ 0) × (slice_get fields.now place ≡ None) }
     ensures no { length rest.now ≡ 0 → slice_get fields.now place ≡ None → IsTrue result }
 {
     rest.is_empty() && fields.get(place).is_none()
@@ -378,8 +379,8 @@ fn innermost<'t, 'a>(
 
 /// Which part of a tape is of no value of its type with a strict encoding, where [`encode_der`] refuses the tape.
 ///
-/// `None` says that the tape has a strict encoding. Else each part of the one that is told has a strict encoding, if it
-/// is a value. So that part itself is at fault. It has no items where a field is missing.
+/// `None` says that the tape has a strict encoding. Else each part of the one that is told has one. So that part itself
+/// is at fault. It has no items where a field is missing.
 ///
 /// Each level of the value costs as much as writing it, and out of memory is the one `Err`.
 pub fn refused_part<'t, 'a>(
