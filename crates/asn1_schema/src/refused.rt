@@ -427,7 +427,10 @@ pub struct RefusedPartByName<'t, 'a, 's, 'n> {
 
 impl<'t, 'a> RefusedPart<'t, 'a> {
     /// The part as one line by these names: the place of its first item, and the field, or else the type.
-    pub fn by_name<'s, 'n>(self, names: &'s [TypeNames<'n>]) -> RefusedPartByName<'t, 'a, 's, 'n> {
+    pub fn by_name<'s, 'n>(self, names: &'s [TypeNames<'n>]) -> RefusedPartByName<'t, 'a, 's, 'n>
+        ensures part { result.part ≡ self.entry }
+        ensures names { result.names.now ≡ names.now }
+    {
         RefusedPartByName { part: self, names }
     }
 }
