@@ -183,15 +183,15 @@ HasComponents table whole (parts.Arm b k) fs u =
     (a : ℕ) × IsSomeAnd (slice_get table b) (λ node. IsArmKind node.kind k a) × (fs ≡ one_field a ∷ []) × (u ≡ None)
 
 -- what is open asks for a value of the type at a place, but for tags and bounds
-abbrev pub AsksFor : List Node → ℕ → List Opened → Type 0
-AsksFor table b [] = ⊥
-AsksFor table b (o ∷ others) = (t : ℕ) × (type_asked o.left ≡ Some t) × (bare_type table t ≡ b)
+abbrev pub AsksForPart : List Node → ℕ → List Opened → Type 0
+AsksForPart table b [] = ⊥
+AsksForPart table b (o ∷ others) = (t : ℕ) × (type_asked o.left ≡ Some t) × (bare_type table t ≡ b)
 
 -- Nothing is round the whole, and what is round a row or an arm asks for it.
 abbrev pub MayBeIn : List Node → Part → List Opened → Type 0
 MayBeIn table parts.Whole others = others ≡ []
-MayBeIn table (parts.Row b) others = AsksFor table b others
-MayBeIn table (parts.Arm b k) others = AsksFor table b others
+MayBeIn table (parts.Row b) others = AsksForPart table b others
+MayBeIn table (parts.Arm b k) others = AsksForPart table b others
 
 -- Values stand in a part that is open, behind what is round it.
 pub record IsOpen (table : List Node) (whole : ℕ) (f : Opened) (others : List Opened) (front ms : List Mark) :
