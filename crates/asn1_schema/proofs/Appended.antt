@@ -2,6 +2,7 @@
 use Rattle.std.proofs.Common.{◌≡◌, ◌∙◌, ap, sym, refl, subst, ℕ, List, [], ◌∷◌, ◌++◌, map, length, take, append_assoc, append-nil}
 use Rattle.std.proofs.Math.Seq.{drop-append_seam, take-append_seam}
 use Rattle.std.proofs.lemmas.List.{map-append}
+use Rattle.std.specs.Prelude.{Result, Ok, Err, OnErr}
 use Rattle.asn1_schema.specs.declared.tape.Item.{Item}
 use Rattle.asn1_schema.specs.declared.tape.Item.TheVariants as items
 use Rattle.asn1_schema.specs.Tape.{Mark, mark, between, begin_mark, end_mark}
@@ -17,6 +18,11 @@ appends_nothing tape = record {
   marks = λ more. sym (append-nil (owned_with tape more));
 }
 
+-- what holds wherever an error is answered
+pub on_error : {T E : Type 0} (r : Result T E) (P : Type 0) → P → OnErr r P
+on_error (Ok x) P p = tt
+on_error (Err e) P p = p
+
 -- nor where octets are put that no item has
 pub appends_octets : (old new : OwnedTape) (own : List ℕ) → new.octets.items ≡ old.octets.items ++ own →
     new.items.items ≡ old.items.items → Appends old new []
@@ -25,7 +31,8 @@ appends_octets old new own behind same = record {
   behind = behind;
   marks = λ more. ap (λ (l : List Placed). map (placed_mark (new.octets.items ++ more)) l) same
       ∙ ap (λ (o : List ℕ). map (placed_mark (o ++ more)) old.items.items) behind
-      ∙ ap (λ (o : List ℕ). map (placed_mark o) old.items.items) (append_assoc old.octets.items own more) ∙ sym (append-nil (owned_with old (own ++ more)));
+      ∙ ap (λ (o : List ℕ). map (placed_mark o) old.items.items) (append_assoc old.octets.items own more)
+      ∙ sym (append-nil (owned_with old (own ++ more)));
 }
 
 -- first the ones and then the others
@@ -84,16 +91,19 @@ unmarked f g [] none = refl
 unmarked f g (p ∷ ps) none = absurd (cc)
 
 -- behind nothing
-pub appended_to_none : (old new : OwnedTape) (ms : List Mark) → owned_marks old ≡ [] → Appends old new ms → owned_marks new ≡ ms
+pub appended_to_none : (old new : OwnedTape) (ms : List Mark) → owned_marks old ≡ [] → Appends old new ms →
+    owned_marks new ≡ ms
 appended_to_none old new ms none a =
     ap (λ (o : List ℕ). map (placed_mark o) new.items.items) (sym (append-nil new.octets.items)) ∙ a.marks []
     ∙ ap (λ (l : List Mark). l ++ ms)
     (unmarked (placed_mark old.octets.items) (placed_mark (old.octets.items ++ (a.octets ++ []))) old.items.items none)
 
 -- a row is put: its begin, its marks, and its end
-pub row_put : (old begun mid new : OwnedTape) (ms : List Mark) (n : ℕ) → n ≡ length ms → Appends old begun (begin_mark n ∷ []) →
+pub row_put : (old begun mid new : OwnedTape) (ms : List Mark) (n : ℕ) → n ≡ length ms →
+    Appends old begun (begin_mark n ∷ []) →
     Appends begun mid ms → Appends mid new (end_mark n ∷ []) →
     Appends old new (between (begin_mark (length ms)) ms (end_mark (length ms)))
 row_put old begun mid new ms n is a b c =
     subst (λ (m : ℕ). Appends old new (between (begin_mark m) ms (end_mark m))) is
-    (appends_both old mid new (begin_mark n ∷ ms) (end_mark n ∷ []) (appends_both old begun mid (begin_mark n ∷ []) ms a b) c)
+    (appends_both old mid new (begin_mark n ∷ ms) (end_mark n ∷ [])
+    (appends_both old begun mid (begin_mark n ∷ []) ms a b) c)

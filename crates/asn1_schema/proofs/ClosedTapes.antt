@@ -34,7 +34,8 @@ row_within old mid front inner ms place a e p =
 
 module _ (old mid new : OwnedTape) (place count : ℕ) (b : Placed) (front inner : List Mark) where
   -- a row is ended, and how many marks it has is written at its beginning
-  pub row_ended : Appends old mid (end_mark count ∷ []) → IsLasting old → owned_marks old ≡ front ++ begin_mark 0 ∷ inner →
+  pub row_ended : Appends old mid (end_mark count ∷ []) → IsLasting old →
+      owned_marks old ≡ front ++ begin_mark 0 ∷ inner →
       place ≡ length front → count ≡ (length old.items.items - place) - 1 → b.shape ≡ items.Begin count →
       new.octets.items ≡ mid.octets.items → new.items.items ≡ slice_set mid.items.items place b →
       IsLasting new × (owned_marks new ≡ front ++ between (begin_mark (length inner)) inner (end_mark (length inner)))

@@ -13,7 +13,11 @@ pub mark_fits : (table : List Node) (t : ℕ) (node : Node) (m : Mark) → slice
 mark_fits table t node (leaf_mark l) e fits keeps = (
   l,
   refl,
-  (subst (λ (o : Option Node). IsSomeAnd o (λ x. IsLeafOf x.tags x.kind l)) (sym e) fits, keeps (measure (leaf l)) refl),
+  (
+    subst (λ (o : Option Node). IsSomeAnd o (λ x. IsLeafOf x.tags x.kind l)) (sym e) fits,
+    keeps
+        (measure (leaf l)) refl,
+  ),
 )
 mark_fits table t node (begin_mark n) e fits keeps = absurd fits
 mark_fits table t node (end_mark n) e fits keeps = absurd fits
@@ -24,12 +28,14 @@ mark_fits table t node (pieces_mark n) e fits keeps = absurd fits
 mark_fits table t node (pieces_end_mark n) e fits keeps = absurd fits
 
 -- there is a type
-pub mark_found : (table : List Node) (t : ℕ) (m : Mark) → slice_get table (bare_type table t) ≡ None → IsMarkAt table t m → ⊥
+pub mark_found : (table : List Node) (t : ℕ) (m : Mark) → slice_get table (bare_type table t) ≡ None →
+    IsMarkAt table t m → ⊥
 mark_found table t m e h =
     subst (λ (o : Option Node). IsSomeAnd o (λ x. IsLeafOf x.tags x.kind h.0)) e h.2.0
 
 -- the item is one of it
-pub mark_of_node : (table : List Node) (t : ℕ) (node : Node) (m : Mark) → slice_get table (bare_type table t) ≡ Some node →
+pub mark_of_node : (table : List Node) (t : ℕ) (node : Node) (m : Mark) →
+    slice_get table (bare_type table t) ≡ Some node →
     IsMarkAt table t m → IsLeafMark node.tags node.kind m
 mark_of_node table t node m e h = subst (λ (x : Mark). IsLeafMark node.tags node.kind x) (sym h.1)
     (subst (λ (o : Option Node). IsSomeAnd o (λ x. IsLeafOf x.tags x.kind h.0)) e h.2.0)

@@ -60,9 +60,10 @@ module _ (table : List Node) (whole : ℕ) (f g : Opened) (others : List Opened)
           members = a.members ∙ i.members;
           values = subst (λ (z : List Field). AreValues table i.fs i.u z (values_of (behind_all i.kept k))) (sym a.left)
               (values_behind table i.fs i.u (fields_to_make f.left) i.kept k t i.values asks v);
-          counted = size ∙ one_more f.size (count (values_of i.kept)) (count (values_of (behind_all i.kept k))) i.counted
+          counted = size ∙ one_more f.size (count (values_of i.kept))
+              (count (values_of (behind_all i.kept k))) i.counted
               (count_behind i.kept k);
-          bottom = subst (λ (p : Part). MayBeIn p others) (sym a.part) i.bottom;
+          around = subst (λ (p : Part). MayBeIn table p others) (sym a.part) i.around;
         },
         o.2,
       )
@@ -82,10 +83,11 @@ module _ (table : List Node) (whole : ℕ) (f g : Opened) (others : List Opened)
           place = a.place ∙ i.place;
           parts = subst (λ (p : Part). HasComponents table whole p i.fs i.u) (sym a.part) i.parts;
           members = a.members ∙ i.members;
-          values = subst (λ (z : List Field). AreValues table i.fs i.u z (values_of (absent_behind i.kept))) (sym a.left)
+          values = subst (λ (z : List Field). AreValues table i.fs i.u z (values_of (absent_behind i.kept)))
+              (sym a.left)
               (values_absent table i.fs i.u (fields_to_make f.left) i.kept i.values e);
           counted = size ∙ i.counted ∙ ap (λ (n : ℕ). min n (2 ^ 128 - 1)) (sym (count_absent i.kept));
-          bottom = subst (λ (p : Part). MayBeIn p others) (sym a.part) i.bottom;
+          around = subst (λ (p : Part). MayBeIn table p others) (sym a.part) i.around;
         },
         o.2,
       )
@@ -93,9 +95,9 @@ module _ (table : List Node) (whole : ℕ) (f g : Opened) (others : List Opened)
 -- a part is opened
 pub open_part : (table : List Node) (whole : ℕ) (f : Opened) (others : List Opened) (ms : List Mark) →
     AreOpen table whole others ms → f.place ≡ length ms → f.size ≡ 0 →
-    HasComponents table whole f.part (fields_to_make f.left) (members_left f.left) → MayBeIn f.part others →
+    HasComponents table whole f.part (fields_to_make f.left) (members_left f.left) → MayBeIn table f.part others →
     AreOpen table whole (f ∷ others) (ms ++ opening f.part)
-open_part table whole f others ms o place size has bottom = (
+open_part table whole f others ms o place size has round = (
   ms,
   record {
     kept = kept_none;
@@ -107,7 +109,7 @@ open_part table whole f others ms o place size has bottom = (
     members = refl;
     values = refl;
     counted = omega (arith, size);
-    bottom = bottom;
+    around = round;
   },
   o,
 )
@@ -127,7 +129,7 @@ open_whole table whole f part left place size = (
     members = ap members_left left;
     values = sym (ap fields_to_make left);
     counted = omega (arith, size);
-    bottom = subst (λ (p : Part). MayBeIn p []) (sym part) refl;
+    around = subst (λ (p : Part). MayBeIn table p []) (sym part) refl;
   },
   refl,
 )
@@ -141,7 +143,8 @@ one_value table a (kept_more k kept_none) h = (k, append-nil (tape_of k), refl, 
 one_value table a (kept_more k (kept_absent ks)) h = absurd h.1
 one_value table a (kept_more k (kept_more j ks)) h = absurd h.1
 
-the_one : (table : List Node) (a : ℕ) (fs left : List Field) (u : Option ℕ) (kept : KeptRow) → fs ≡ one_field a ∷ [] → u ≡ None →
+the_one : (table : List Node) (a : ℕ) (fs left : List Field) (u : Option ℕ) (kept : KeptRow) → fs ≡ one_field a ∷ [] →
+    u ≡ None →
     left ≡ [] → AreValues table fs u left (values_of kept) →
     (k : Kept) × (tapes_of kept ≡ tape_of k) × (count (values_of kept) ≡ 1) × IsValue table a (value_of k)
 the_one table a fs left u kept e n l h = one_value table a kept
@@ -155,7 +158,7 @@ pub whole_made : (table : List Node) (whole : ℕ) (f : Opened) (others : List O
     (others ≡ []) × ((k : Kept) × (ms ≡ tape_of k) × IsValue table whole (value_of k))
 whole_made table whole f others ms o part left =
     let i = o.1 in
-    let alone : others ≡ [] = subst (λ (p : Part). MayBeIn p others) part i.bottom in
+    let alone : others ≡ [] = subst (λ (p : Part). MayBeIn table p others) part i.around in
     let has = subst (λ (p : Part). HasComponents table whole p i.fs i.u) part i.parts in
     let first : o.0 ≡ [] = subst (λ (z : List Opened). AreOpen table whole z o.0) alone o.2 in
     let one = the_one table whole i.fs (fields_to_make f.left) i.u i.kept has.0 has.1 left i.values in (
@@ -171,7 +174,8 @@ whole_made table whole f others ms o part left =
 module _ (table : List Node) (whole : ℕ) (f o g : Opened) (others : List Opened) (old new : OwnedTape) (t : ℕ) where
   -- a row is ended
   closed_row : (b : ℕ) → f.part ≡ parts.Row b → AreOpen table whole (f ∷ o ∷ others) (owned_marks old) → IsLasting old →
-      IsAdvanced o g → g.size ≡ min (o.size + 1) (2 ^ 128 - 1) → fields_to_make f.left ≡ [] → type_asked o.left ≡ Some t →
+      IsAdvanced o g → g.size ≡ min (o.size + 1) (2 ^ 128 - 1) → fields_to_make f.left ≡ [] →
+      type_asked o.left ≡ Some t →
       IsEndOf table t (parts.Row b) f.size → ClosesAs (parts.Row b) f.place old new →
       IsLasting new × AreOpen table whole (g ∷ others) (owned_marks new)
   closed_row b part w lasts a size left e end closes =
@@ -194,8 +198,10 @@ module _ (table : List Node) (whole : ℕ) (f o g : Opened) (others : List Opene
       )
 
   -- an arm is
-  closed_arm : (b k : ℕ) → f.part ≡ parts.Arm b k → AreOpen table whole (f ∷ o ∷ others) (owned_marks old) → IsLasting old →
-      IsAdvanced o g → g.size ≡ min (o.size + 1) (2 ^ 128 - 1) → fields_to_make f.left ≡ [] → type_asked o.left ≡ Some t →
+  closed_arm : (b k : ℕ) → f.part ≡ parts.Arm b k → AreOpen table whole (f ∷ o ∷ others) (owned_marks old) →
+      IsLasting old →
+      IsAdvanced o g → g.size ≡ min (o.size + 1) (2 ^ 128 - 1) → fields_to_make f.left ≡ [] →
+      type_asked o.left ≡ Some t →
       IsEndOf table t (parts.Arm b k) f.size → ClosesAs (parts.Arm b k) f.place old new →
       IsLasting new × AreOpen table whole (g ∷ others) (owned_marks new)
   closed_arm b k part w lasts a size left e end closes =
@@ -212,15 +218,22 @@ module _ (table : List Node) (whole : ℕ) (f o g : Opened) (others : List Opene
       ) in
       let all : owned_marks new ≡ w.0 ++ tape_of arm =
       l.1
-      ∙ marks_behind f.part (parts.Arm b k) w.0 (tapes_of i.kept) (owned_marks old) (arm_end_mark k ∷ []) (sym part) i.is
-      ∙ ap (λ (z : List Mark). w.0 ++ (arm_mark k ∷ (z ++ arm_end_mark k ∷ []))) one.1 in
-      (l.0, subst (AreOpen table whole (g ∷ others)) (sym all) (open_more table whole o g others w.0 arm t w.2 a size e v))
+      ∙ marks_behind f.part (parts.Arm b k) w.0 (tapes_of i.kept) (owned_marks old) (arm_end_mark k ∷ [])
+      (sym part) i.is
+      ∙ ap (λ (z : List Mark). w.0 ++ (arm_mark k ∷ (z ++ arm_end_mark k ∷ []))) one.1 in (
+        l.0,
+        subst (AreOpen table whole (g ∷ others)) (sym all)
+            (open_more table whole o g others w.0 arm t w.2 a size e v),
+      )
 
   -- whatever is open
-  pub closed_part : (part : Part) → f.part ≡ part → AreOpen table whole (f ∷ o ∷ others) (owned_marks old) → IsLasting old →
-      IsAdvanced o g → g.size ≡ min (o.size + 1) (2 ^ 128 - 1) → fields_to_make f.left ≡ [] → type_asked o.left ≡ Some t →
+  pub closed_part : (part : Part) → f.part ≡ part → AreOpen table whole (f ∷ o ∷ others) (owned_marks old) →
+      IsLasting old →
+      IsAdvanced o g → g.size ≡ min (o.size + 1) (2 ^ 128 - 1) → fields_to_make f.left ≡ [] →
+      type_asked o.left ≡ Some t →
       IsEndOf table t part f.size → ClosesAs part f.place old new →
       IsLasting new × AreOpen table whole (g ∷ others) (owned_marks new)
   closed_part parts.Whole part w lasts a size left e end closes = absurd end
   closed_part (parts.Row b) part w lasts a size left e end closes = closed_row b part w lasts a size left e end closes
-  closed_part (parts.Arm b k) part w lasts a size left e end closes = closed_arm b k part w lasts a size left e end closes
+  closed_part (parts.Arm b k) part w lasts a size left e end closes =
+      closed_arm b k part w lasts a size left e end closes

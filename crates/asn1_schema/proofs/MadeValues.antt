@@ -56,16 +56,19 @@ next_value table [] (Some s) k t e v =
 next_value table (f ∷ fs) u k t e v =
     let same : f.of ≡ t = cc (e) in (subst (λ (x : ℕ). IsValue table x (value_of k)) (sym same) v, refl)
 
-pub values_behind : (table : List Node) (fs : List Field) (u : Option ℕ) (left : List Field) (ks : KeptRow) (k : Kept) (t : ℕ) →
+pub values_behind : (table : List Node) (fs : List Field) (u : Option ℕ) (left : List Field) (ks : KeptRow) (k : Kept)
+    (t : ℕ) →
     AreValues table fs u left (values_of ks) → type_next left u ≡ Some t → IsValue table t (value_of k) →
     AreValues table fs u (drop 1 left) (values_of (behind_all ks k))
 unfolding behind_all
-values_behind table fs u left kept_none k t h e v = subst (λ (z : List Field). AreValues table fs u (drop 1 z) (more (value_of k) none)) h
+values_behind table fs u left kept_none k t h e v = subst
+    (λ (z : List Field). AreValues table fs u (drop 1 z) (more (value_of k) none)) h
     (next_value table fs u k t (subst (λ (z : List Field). type_next z u ≡ Some t) (sym h) e) v)
 values_behind table [] u left (kept_absent ks) k t h e v = absurd h
 values_behind table (f ∷ fs) u left (kept_absent ks) k t h e v = (h.0, values_behind table fs u left ks k t h.1 e v)
 values_behind table [] None left (kept_more j ks) k t h e v = absurd h
-values_behind table [] (Some s) left (kept_more j ks) k t h e v = (h.0, values_behind table [] (Some s) left ks k t h.1 e v)
+values_behind table [] (Some s) left (kept_more j ks) k t h e v =
+    (h.0, values_behind table [] (Some s) left ks k t h.1 e v)
 values_behind table (f ∷ fs) u left (kept_more j ks) k t h e v = (h.0, values_behind table fs u left ks k t h.1 e v)
 
 next_absent : (table : List Node) (fs : List Field) (u : Option ℕ) → IsOptionalNext fs →
@@ -77,7 +80,8 @@ pub values_absent : (table : List Node) (fs : List Field) (u : Option ℕ) (left
     AreValues table fs u left (values_of ks) → IsOptionalNext left →
     AreValues table fs u (drop 1 left) (values_of (absent_behind ks))
 unfolding absent_behind
-values_absent table fs u left kept_none h o = subst (λ (z : List Field). AreValues table fs u (drop 1 z) (absent none)) h
+values_absent table fs u left kept_none h o = subst
+    (λ (z : List Field). AreValues table fs u (drop 1 z) (absent none)) h
     (next_absent table fs u (subst IsOptionalNext (sym h) o))
 values_absent table [] u left (kept_absent ks) h o = absurd h
 values_absent table (f ∷ fs) u left (kept_absent ks) h o = (h.0, values_absent table fs u left ks h.1 o)

@@ -20,7 +20,8 @@ trimmed_few (x ∷ xs) =
     let f = front_few x (trimmed xs) in
     omega (arith, l, f)
 
-front_all : (b : Bool) (ys xs : List Bool) → (length ys ≡ length xs → ys ≡ xs) → length (in_front_of b ys) ≡ suc (length xs) →
+front_all : (b : Bool) (ys xs : List Bool) → (length ys ≡ length xs → ys ≡ xs) →
+    length (in_front_of b ys) ≡ suc (length xs) →
     length ys ≤ length xs → in_front_of b ys ≡ b ∷ xs
 front_all true [] xs f e l = ap (λ (z : List Bool). true ∷ z) (f (omega (arith, e)))
 front_all true (z ∷ ys) xs f e l = ap (λ (w : List Bool). true ∷ w) (f (omega (arith, e)))
@@ -41,7 +42,8 @@ used_length u o =
 pub trimmed_by_counts : (u z : ℕ) (o f : List ℕ) (m n : ℕ) → used_bits z f ≡ trimmed (used_bits u o) →
     m ≡ 8 * length f - z → n ≡ 8 * length o - u → IsTrue (nat_eq m n) ↔ (trimmed (used_bits u o) ≡ used_bits u o)
 trimmed_by_counts u z o f m n same a b =
-    let l : length (trimmed (used_bits u o)) ≡ m = sym (ap (λ (w : List Bool). length w) same) ∙ used_length z f ∙ sym a in
+    let l : length (trimmed (used_bits u o)) ≡ m = sym (ap (λ (w : List Bool). length w) same) ∙ used_length z f
+    ∙ sym a in
     let k : length (used_bits u o) ≡ n = used_length u o ∙ sym b in (
       λ yes. let e : m ≡ n = grind (arith, yes) in trimmed_all (used_bits u o) (l ∙ e ∙ sym k),
       λ all. eq-eqb m n (sym l ∙ ap (λ (w : List Bool). length w) all ∙ k),

@@ -182,11 +182,16 @@ HasComponents table whole (parts.Row b) fs u = IsSomeAnd (slice_get table b) (λ
 HasComponents table whole (parts.Arm b k) fs u =
     (a : ℕ) × IsSomeAnd (slice_get table b) (λ node. IsArmKind node.kind k a) × (fs ≡ one_field a ∷ []) × (u ≡ None)
 
--- nothing is round the whole
-abbrev pub MayBeIn : Part → List Opened → Type 0
-MayBeIn parts.Whole others = others ≡ []
-MayBeIn (parts.Row b) others = Unit {0}
-MayBeIn (parts.Arm b k) others = Unit {0}
+-- what is open asks for a value of the type at a place, but for tags and bounds
+abbrev pub AsksForPart : List Node → ℕ → List Opened → Type 0
+AsksForPart table b [] = ⊥
+AsksForPart table b (o ∷ others) = (t : ℕ) × (type_asked o.left ≡ Some t) × (bare_type table t ≡ b)
+
+-- Nothing is round the whole, and what is round a row or an arm asks for it.
+abbrev pub MayBeIn : List Node → Part → List Opened → Type 0
+MayBeIn table parts.Whole others = others ≡ []
+MayBeIn table (parts.Row b) others = AsksForPart table b others
+MayBeIn table (parts.Arm b k) others = AsksForPart table b others
 
 -- Values stand in a part that is open, behind what is round it.
 pub record IsOpen (table : List Node) (whole : ℕ) (f : Opened) (others : List Opened) (front ms : List Mark) :
@@ -200,7 +205,7 @@ pub record IsOpen (table : List Node) (whole : ℕ) (f : Opened) (others : List 
   pub members : members_left f.left ≡ u
   pub values : AreValues table fs u (fields_to_make f.left) (values_of kept)
   pub counted : f.size ≡ min (count (values_of kept)) (2 ^ 128 - 1)
-  pub bottom : MayBeIn f.part others
+  pub around : MayBeIn table f.part others
 
 -- So in all that are open, the innermost first.
 abbrev pub AreOpen : List Node → ℕ → List Opened → List Mark → Type 0

@@ -1,7 +1,7 @@
 //! Values of the types of a table are made by hand: one component after the other, along the table.
 ghost use Rattle.std.specs.Prelude.{ℕ, List, [], ◌∷◌, ◌++◌, ◌≡◌, ◌≢◌, ◌↔◌, ◌^◌, ◌-◌, ◌+◌, drop};
 ghost use Rattle.std.specs.Prelude.{min};
-ghost use Rattle.std.specs.Prelude.{IfSome, IfNone, IfOk, IfErr, OnOk, OnErr, IsTrue, IsSomeAnd};
+ghost use Rattle.std.specs.Prelude.{IfSome, IfNone, IfOk, IfErr, OnOk, OnErr, IsTrue, IsSomeAnd, Option};
 ghost use Rattle.std.specs.Prelude.{slice_get};
 ghost use Rattle.asn1_schema.specs.declared.fault.Fault.TheVariants as faults;
 ghost use Rattle.asn1_schema.specs.declared.making.Left.TheVariants as lefts;
@@ -392,7 +392,8 @@ pub struct ValueMaker<'n> {
 impl<'n> ValueMaker<'n> {
     /// A maker of one value of the type at a place of a table. Nothing of it is made yet.
     pub fn new(alloc: Global, table: &'n [Node], of: usize) -> ValueMaker<'n>
-        ensures { IsMaking table.now of result }
+        ensures making { IsMaking table.now of result }
+        ensures empty { owned_marks result.tape ≡ [] }
     {
         ValueMaker {
             alloc,
@@ -422,7 +423,7 @@ impl<'n> ValueMaker<'n> {
         ensures err { OnErr result (GoesOn self.old self.new [] self.old.inner) }
         ensures reason { IfErr result (λ e. e.reason ≡ reasons.OutOfMemory) }
     {
-        match self.tape.push(item) {
+        match self.tape.put(item) {
             Ok(()) => {
                 self.inner = inner;
                 Ok(())
@@ -431,7 +432,7 @@ impl<'n> ValueMaker<'n> {
         }
     }
 
-    /// OpensPart a part, whose first mark this item is.
+    /// Opens a part, whose first mark this item is.
     fn begin_part(&mut self, item: &Item<'_>, part: Part, left: Left<'n>) -> Result<(), Mistake>
         ensures ok { OnOk result (OpensPart self.old self.new (mark item.now) part left.entry) }
         ensures err { OnErr result (GoesOn self.old self.new [] self.old.inner) }
@@ -442,7 +443,7 @@ impl<'n> ValueMaker<'n> {
             Ok(()) => (),
             Err(_) => return Err(self.mistake(MakeReason::OutOfMemory)),
         }
-        match self.tape.push(item) {
+        match self.tape.put(item) {
             Ok(()) => {
                 self.inner = Opened {
                     part,
@@ -462,7 +463,8 @@ impl<'n> ValueMaker<'n> {
     /// Puts a value that is one item: one with no parts.
     ///
     /// An integer may have any octets in two's complement. A time has any form that BER allows (X.680 46, 47), and bits
-    /// with names have no zeros at their end. `Value` says that the type at hand does not have the value.
+    /// with names have no zeros at their end. The contents of an element of any type are not looked into. `Value` says
+    /// that the type at hand does not have the value.
     pub fn item(&mut self, item: &Item<'_>) -> Result<(), Mistake>
         ensures ok { OnOk result (MayPut self.old (mark item.now) ×
             Appends self.old.tape self.new.tape (mark item.now ∷ [])) }
@@ -470,6 +472,7 @@ impl<'n> ValueMaker<'n> {
             MayPut self.old (mark item.now) → ⊥) }
         ensures unchanged { IfErr result (λ e. e.reason ≢ reasons.OutOfMemory →
             self.new ≡ self.old) }
+        ensures nothing { OnErr result (GoesOn self.old self.new [] self.old.inner) }
         ensures making { (table : List Node) (of : ℕ) → IsMaking table of self.old →
             IsMaking table of self.new }
     {
@@ -491,6 +494,7 @@ impl<'n> ValueMaker<'n> {
             IsOptionalNext (fields_to_make self.old.inner.left) → ⊥) }
         ensures unchanged { IfErr result (λ e. e.reason ≢ reasons.OutOfMemory →
             self.new ≡ self.old) }
+        ensures nothing { OnErr result (GoesOn self.old self.new [] self.old.inner) }
         ensures making { (table : List Node) (of : ℕ) → IsMaking table of self.old →
             IsMaking table of self.new }
     {
@@ -509,6 +513,7 @@ impl<'n> ValueMaker<'n> {
             MayBegin self.old → ⊥) }
         ensures unchanged { IfErr result (λ e. e.reason ≢ reasons.OutOfMemory →
             self.new ≡ self.old) }
+        ensures nothing { OnErr result (GoesOn self.old self.new [] self.old.inner) }
         ensures making { (table : List Node) (of : ℕ) → IsMaking table of self.old →
             IsMaking table of self.new }
     {
@@ -530,6 +535,7 @@ impl<'n> ValueMaker<'n> {
             MayChoose self.old arm → ⊥) }
         ensures unchanged { IfErr result (λ e. e.reason ≢ reasons.OutOfMemory →
             self.new ≡ self.old) }
+        ensures nothing { OnErr result (GoesOn self.old self.new [] self.old.inner) }
         ensures making { (table : List Node) (of : ℕ) → IsMaking table of self.old →
             IsMaking table of self.new }
     {
@@ -555,7 +561,7 @@ impl<'n> ValueMaker<'n> {
         match self.inner.part {
             Part::Whole => Ok(()),
             Part::Row(_) => self.tape.close_row(self.inner.place),
-            Part::Arm(_, arm) => self.tape.push(&Item::ArmEnd(arm)),
+            Part::Arm(_, arm) => self.tape.put(&Item::ArmEnd(arm)),
         }
     }
 
@@ -569,6 +575,7 @@ impl<'n> ValueMaker<'n> {
         ensures refused { IfErr result (λ e. e.reason ≢ reasons.OutOfMemory → MayEnd self.old → ⊥) }
         ensures unchanged { IfErr result (λ e. e.reason ≢ reasons.OutOfMemory →
             self.new ≡ self.old) }
+        ensures nothing { OnErr result (GoesOn self.old self.new [] self.old.inner) }
         ensures making { (table : List Node) (of : ℕ) → IsMaking table of self.old →
             IsMaking table of self.new }
     {
@@ -600,6 +607,8 @@ impl<'n> ValueMaker<'n> {
         ensures value { (table : List Node) (of : ℕ) → IsMaking table of self.old → IfOk result
             (λ tape. (kept : Kept) × (owned_marks tape ≡ tape_of kept) ×
             IsValue table of (value_of kept)) }
+        ensures tape { IfOk result (λ tape. tape ≡ self.old.tape) }
+        ensures anew { OnOk result (owned_marks self.new.tape ≡ []) }
         ensures refused { OnErr result (IsWholeMade self.old → ⊥) }
         ensures unchanged { OnErr result (self.new ≡ self.old) }
         ensures making { (table : List Node) (of : ℕ) → IsMaking table of self.old →

@@ -132,8 +132,8 @@ impl OwnedTape {
         self.items.is_empty()
     }
 
-    /// Puts an item behind the others, and its octets behind theirs.
-    pub fn push(&mut self, item: &Item<'_>) -> Result<(), AllocError>
+    /// Puts an item behind the others. None is put where memory ran out.
+    pub(crate) fn put(&mut self, item: &Item<'_>) -> Result<(), AllocError>
         ensures ok { OnOk result (Appends self.old self.new (mark item.now ∷ [])) }
         ensures err { OnErr result (Appends self.old self.new []) }
     {
@@ -146,6 +146,13 @@ impl OwnedTape {
             len: octets.len(),
         })?;
         Ok(())
+    }
+
+    /// Puts an item behind the others, and its octets behind theirs.
+    pub fn push(&mut self, item: &Item<'_>) -> Result<(), AllocError>
+        ensures { OnOk result (Appends self.old self.new (mark item.now ∷ [])) }
+    {
+        self.put(item)
     }
 
     /// Puts the items of a tape behind the others.
@@ -164,7 +171,7 @@ impl OwnedTape {
         ensures err { OnErr result (Appends self.old self.new []) }
     {
         let inner = self.items.len().saturating_sub(place).saturating_sub(1);
-        self.push(&Item::End(inner))?;
+        self.put(&Item::End(inner))?;
         if place < self.items.len() {
             self.items[place] = begin_of(inner);
         }
