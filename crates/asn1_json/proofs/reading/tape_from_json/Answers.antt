@@ -17,5 +17,5 @@ returns-in-Ok-clause-none c =
     subst (λ (o : List ℕ). IfErr c.made_from_text.result (λ e. OrOutOfMemory e (DenotesNone c.args.schema.now c.args.depth c.args.of o)))
     c.in-Ok.ensures.cases.0 c.made_from_text.ensures.none
 
-pub returns-clause-none : goal.returns-clause-none
-returns-clause-none c = or_memory c.text_refused.result _ (λ json v utf8 is d h. c.in-Err.ensures.cases.0 utf8)
+pub returns-in-Err-clause-none : goal.returns-in-Err-clause-none
+returns-in-Err-clause-none c = or_memory c.text_refused.result _ (λ json v utf8 is d h. c.in-Err.ensures.cases.0 utf8)
