@@ -1,6 +1,6 @@
 -- Values without parts that are put on a tape.
 use Rattle.std.proofs.Common.{◌≡◌, ◌∙◌, ap, sym, subst, ℕ, Bool, false, List, [], Result, Ok, Err}
-use Rattle.std.specs.Prelude.{IfOk, IfSome, OnOk, Option, MatchOption}
+use Rattle.std.specs.Prelude.{Option, MatchOption}
 use Rattle.json.specs.Json.{Json, boolean, number, string, object, Members, no_members}
 use Rattle.asn1_schema.specs.declared.schema.Kind.{Kind}
 use Rattle.asn1_schema.specs.declared.schema.Kind.TheVariants as kinds
@@ -8,8 +8,7 @@ use Rattle.asn1_schema.specs.declared.names.PartName.{PartName}
 use Rattle.asn1_schema.specs.Values.{LeafValue, Value, leaf}
 use Rattle.asn1_json.specs.DenotedLeaves.{DenotesLeaf}
 use Rattle.asn1_json.specs.Denotes.{DenotesKind}
-use Rattle.asn1_json.specs.Found.{FindsOnly}
-use Rattle.asn1_json.specs.Outcomes.{DenotesSimple, HaveNone, Makes, ReadsDenoted}
+use Rattle.asn1_json.specs.Outcomes.{DenotesSimple, HaveNone, ReadsDenoted}
 use Rattle.asn1_json.specs.Tokens.{Types}
 use Rattle.asn1_json.specs.Types.{labels_at}
 use Rattle.std.specs.Prelude.{Some, None}
@@ -39,27 +38,6 @@ put_leaf l labels kind j W old new (Ok x) p d only = record {
 }
 put_leaf l labels kind j W old new (Err x) p d only = λ refused v e w.
     p refused v (e.1 ∙ ap leaf (only e.0 e.2 (subst W e.1 w))) w
-
-pub put_made : (l : LeafValue) (labels : List PartName) (kind : Kind) (j : Json) (W : Value → Type 0)
-    (old new : OwnedTape)
-    (r : Result (Unit {0}) Fault) → ReadsDenoted (λ v. v ≡ leaf l) W old new r → DenotesLeaf labels kind j l →
-    OnOk r (Makes (DenotesSimple labels kind j) old new)
-put_made l labels kind j W old new (Ok x) p d = record { kept = p.kept; denotes = (l, p.denotes.0, d); put = p.put }
-put_made l labels kind j W old new (Err x) p d = tt
-
--- what is read is made
-pub reads_makes : (D W : Value → Type 0) (old new : OwnedTape) (r : Result (Unit {0}) Fault) →
-    ReadsDenoted D W old new r →
-    OnOk r (Makes D old new)
-reads_makes D W old new (Ok x) p = record { kept = p.kept; denotes = p.denotes.0; put = p.put }
-reads_makes D W old new (Err x) p = tt
-
--- what is found is one of those
-pub finds_some : {A V E : Type 0} (f : A → V) (P : V → Type 0) (r : Result (Option A) E) → IfOk r (FindsOnly f P) →
-    IfOk r (λ found. IfSome found (λ a. P (f a)))
-finds_some f P (Ok (Some a)) p = p.0
-finds_some f P (Ok None) p = tt
-finds_some f P (Err e) p = tt
 
 -- no value without parts is denoted
 pub no_leaf : (labels : List PartName) (kind : Kind) (j : Json) (W : Value → Type 0) →

@@ -130,7 +130,7 @@ module _ (types : Types) (Sub : ℕ → Json → Value → Type 0) (W : ℕ → 
       )
 
   pub no_arm_named : (V : Value → Type 0) → arm_from types choice key Arms 0 ≡ None → HaveNone (DenotesChosen types Sub choice Arms j) V
-  no_arm_named V none v d h = let b = arm_back v d in let f = sym none ∙ b.4 in absurd (cc (f))
+  no_arm_named V missing v d h = let b = arm_back v d in let f = sym missing ∙ b.4 in absurd (cc (f))
 
   module _ (arm : ℕ) (named : arm_from types choice key Arms 0 ≡ Some arm) where
     same_arm : (other : ℕ) → arm_from types choice key Arms 0 ≡ Some other → other ≡ arm
@@ -138,9 +138,9 @@ module _ (types : Types) (Sub : ℕ → Json → Value → Type 0) (W : ℕ → 
 
     pub no_arm_type : (V : Value → Type 0) → type_of_arm types (Some choice) arm ≡ None →
         HaveNone (DenotesChosen types Sub choice Arms j) V
-    no_arm_type V none v d h =
+    no_arm_type V missing v d h =
         let b = arm_back v d in
-        let f = sym none ∙ subst (λ (n : ℕ). type_of_arm types (Some choice) n ≡ Some b.1) (same_arm b.0 b.4) b.5 in absurd (cc (f))
+        let f = sym missing ∙ subst (λ (n : ℕ). type_of_arm types (Some choice) n ≡ Some b.1) (same_arm b.0 b.4) b.5 in absurd (cc (f))
 
     module _ (t : ℕ) (of : type_of_arm types (Some choice) arm ≡ Some t) where
       chosen_back : (v : Value) → DenotesChosen types Sub choice Arms j v → ArmHas W Arms v →

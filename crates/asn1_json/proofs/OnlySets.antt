@@ -202,8 +202,8 @@ sorted_words (m ∷ ms) up = λ k d low high.
     let len = length-map all octets_of_member in
     let next : k + 1 < length all = omega (arith, high, len) in
     let here : k < length all = omega (arith, next) in
-    ap (λ (x : List ℕ). is_lt (dictionary_order x (get_or words k d))) (get_or-map octets_of_member all (k + 1) d m next)
-    ∙ ap (λ (y : List ℕ). is_lt (dictionary_order (octets_of_member (get_or all (k + 1) m)) y)) (get_or-map octets_of_member all k d m here)
+    ap (λ (x : List ℕ). is_lt (dictionary_order x (get_or words k d))) (get_or-map octets_of_member all (k + 1) m d next)
+    ∙ ap (λ (y : List ℕ). is_lt (dictionary_order (octets_of_member (get_or all (k + 1) m)) y)) (get_or-map octets_of_member all k m d here)
     ∙ up k m low next
 
 -- Members that are read.

@@ -1,6 +1,5 @@
 -- Rows that are made part by part.
-use Rattle.std.proofs.Common.{◌≡◌, ◌∙◌, ap, sym, refl, subst, ℕ, suc, ◌+◌, ◌≤◌, List, [], ◌∷◌, ◌++◌, append_assoc, append-nil, length, drop, get_or, ◌<◌, Option, Some, None, codes, arith}
-use Rattle.std.proofs.lemmas.List.{drop_all, drop_more}
+use Rattle.std.proofs.Common.{◌≡◌, ◌∙◌, ap, sym, refl, subst, ℕ, suc, ◌+◌, List, [], ◌∷◌, ◌++◌, append_assoc, append-nil, length, drop, Option, Some, None, arith}
 use Rattle.json.specs.Json.{Json, Members}
 use Rattle.json.specs.Find.{get_member}
 use Rattle.json.specs.Value.{items_of}
@@ -10,13 +9,13 @@ use Rattle.asn1_schema.specs.declared.schema.Presence.{Presence}
 use Rattle.asn1_schema.specs.declared.schema.Presence.TheVariants as presences
 use Rattle.asn1_schema.specs.Grammar.{Body, LeftOut}
 use Rattle.asn1_schema.specs.Rules.{der}
-use Rattle.asn1_schema.specs.Tape.{Mark, Kept, KeptRow, kept_leaf, kept_row, kept_chosen, kept_none, kept_absent, kept_more, value_of, values_of, tape_of, tapes_of}
-use Rattle.asn1_schema.specs.Tape.{leaf_mark, absent_mark, begin_mark, end_mark, arm_mark, arm_end_mark, between}
-use Rattle.asn1_schema.specs.Values.{LeafValue, Value, Values, leaf, row, chosen, none, absent, more}
+use Rattle.asn1_schema.specs.Tape.{Mark, KeptRow, kept_row, kept_chosen, kept_none, kept_absent, kept_more, value_of, values_of, tape_of, tapes_of}
+use Rattle.asn1_schema.specs.Tape.{absent_mark, begin_mark, end_mark, arm_mark, arm_end_mark, between}
+use Rattle.asn1_schema.specs.Values.{Value, Values, row, chosen, none, absent, more}
 use Rattle.asn1_schema.specs.declared.owned.OwnedTape.{OwnedTape}
 use Rattle.asn1_json.specs.Tokens.{Types, name_of_field}
 use Rattle.asn1_schema.specs.Owned.{owned_marks}
-use Rattle.asn1_json.specs.Denotes.{DenoteFields, DenoteItems, DenoteUnknown, DenotesComponent}
+use Rattle.asn1_json.specs.Denotes.{DenoteFields, DenoteItems, DenotesComponent}
 use Rattle.asn1_schema.specs.Owned.{Appends}
 use Rattle.asn1_json.specs.Outcomes.{DenoteFirst, DenotesOnce, Makes, MakesRow, and_then}
 use Rattle.asn1_schema.proofs.Appended.{appends_nothing, appends_both, appended_to_none}
@@ -67,16 +66,6 @@ pub row_of_absent : (E : Values → Type 0) (old new : OwnedTape) → Appends ol
     MakesRow E old new
 row_of_absent E old new a e = record { kept = kept_absent kept_none; denotes = e; put = a }
 
--- the same by another name
-pub makes_as : (D E : Value → Type 0) (old new : OwnedTape) → ((v : Value) → D v → E v) → Makes D old new → Makes E old new
-makes_as D E old new e m = record { kept = m.kept; denotes = e (value_of m.kept) m.denotes; put = m.put }
-
-pub row_as : (D E : Values → Type 0) (old new : OwnedTape) → ((vs : Values) → D vs → E vs) → MakesRow D old new → MakesRow E old new
-row_as D E old new e m = record { kept = m.kept; denotes = e (values_of m.kept) m.denotes; put = m.put }
-
-pub leaf_made : (D : Value → Type 0) (old new : OwnedTape) (l : LeafValue) → Appends old new (leaf_mark l ∷ []) → D (leaf l) → Makes D old new
-leaf_made D old new l a d = record { kept = kept_leaf l; denotes = d; put = a }
-
 -- one item more
 pub items_more : (Sub : Json → Value → Type 0) (js : List Json) (j : Json) (vs : Values) (v : Value) →
     DenoteItems Sub (items_of js) vs → Sub j v → DenoteItems Sub (items_of (js ++ j ∷ [])) (and_then vs (more v none))
@@ -86,15 +75,6 @@ items_more Sub [] j (more w vs) v d s = absurd d
 items_more Sub (i ∷ js) j none v d s = absurd d
 items_more Sub (i ∷ js) j (absent vs) v d s = absurd d
 items_more Sub (i ∷ js) j (more w vs) v d s = (d.0, items_more Sub js j vs v d.1 s)
-
-pub item_made : (Sub : Json → Value → Type 0) (js : List Json) (j : Json) (old mid new : OwnedTape) →
-    MakesRow (DenoteItems Sub (items_of js)) old mid → Makes (Sub j) mid new →
-    MakesRow (DenoteItems Sub (items_of (js ++ j ∷ []))) old new
-item_made Sub js j old mid new a b =
-    rows_joined (DenoteItems Sub (items_of js)) (λ ws. (v : Value) × (ws ≡ more v none) × Sub j v)
-    (DenoteItems Sub (items_of (js ++ j ∷ []))) old mid new a
-    (row_of_one (Sub j) (λ ws. (v : Value) × (ws ≡ more v none) × Sub j v) mid new b (λ v s. (v, refl, s)))
-    (λ vs ws d e. subst (λ (z : Values). DenoteItems Sub (items_of (js ++ j ∷ [])) (and_then vs z)) (sym e.1) (items_more Sub js j vs e.0 d e.2))
 
 -- a row is put, whose values are on a tape of their own
 pub row_made : (D : Values → Type 0) (E : Value → Type 0) (fresh inner old new : OwnedTape) → owned_marks fresh ≡ [] →
@@ -154,29 +134,3 @@ module _ (types : Types) (depth : ℕ) (Sub : ℕ → Json → Value → Type 0)
       (subst (λ (n : ℕ). DenoteFields types depth Sub at unknown ms (drop (place + 1) fs) n rest) one later) in
       subst (DenoteFields types depth Sub at unknown ms fs 0) (sym (and_then_assoc vs ws rest))
       (first (and_then ws rest) (subst (λ (gs : List Field). DenoteFields types depth Sub at unknown ms gs place (and_then ws rest)) (sym is) here))
-
-  pub fields_begun : (tape : OwnedTape) → MakesRow (DenoteFirst types depth Sub at unknown ms fs 0) tape tape
-  fields_begun tape = row_of_none (DenoteFirst types depth Sub at unknown ms fs 0) tape (λ ws d. d)
-
-  pub field_made : (place : ℕ) (gs : List Field) (f d : Field) (old mid new : OwnedTape) → gs ≡ fs → f ≡ get_or gs place d →
-      place < length gs → MakesRow (DenoteFirst types depth Sub at unknown ms fs place) old mid →
-      MakesRow (DenotesOnce types depth Sub f (get_member (name_of_field types (Some at) place) ms)) mid new →
-      MakesRow (DenoteFirst types depth Sub at unknown ms fs (place + 1)) old new
-  field_made place gs f d old mid new same here lt a b =
-      let truncated : drop place gs ≡ f ∷ drop (place + 1) gs =
-      drop_more gs place d lt ∙ ap (λ (g : Field). g ∷ drop (place + 1) gs) (sym here) in
-      let is : drop place fs ≡ f ∷ drop (place + 1) fs =
-      subst (λ (l : List Field). drop place l ≡ f ∷ drop (place + 1) l) same truncated in
-      rows_joined (DenoteFirst types depth Sub at unknown ms fs place)
-      (DenotesOnce types depth Sub f (get_member (name_of_field types (Some at) place) ms))
-      (DenoteFirst types depth Sub at unknown ms fs (place + 1)) old mid new a b (λ vs ws d e. first_more place f vs ws is d e)
-
-  -- and the unknown elements behind them
-  pub fields_made : (old mid new : OwnedTape) → MakesRow (DenoteFirst types depth Sub at unknown ms fs (length fs)) old mid →
-      MakesRow (DenoteUnknown Sub unknown (get_member (codes "...") ms)) mid new →
-      MakesRow (DenoteFields types depth Sub at unknown ms fs 0) old new
-  fields_made old mid new a b =
-      let le : length fs ≤ length fs = omega arith in
-      rows_joined (DenoteFirst types depth Sub at unknown ms fs (length fs)) (DenoteUnknown Sub unknown (get_member (codes "...") ms))
-      (DenoteFields types depth Sub at unknown ms fs 0) old mid new a b
-      (λ vs ws d e. d ws (subst (λ (gs : List Field). DenoteFields types depth Sub at unknown ms gs (length fs) ws) (sym (drop_all (length fs) fs le)) e))

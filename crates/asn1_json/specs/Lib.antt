@@ -14,3 +14,4 @@ pub mod MadeFrom
 pub mod Trees
 pub mod Outcomes
 pub mod OnlyRows
+pub mod ComesBack

@@ -5,6 +5,7 @@ ghost use Rattle.json.specs.declared.error.Error.TheVariants.{OutOfMemory as no_
 ghost use Rattle.asn1_schema.specs.Owned.{owned_marks};
 ghost use Rattle.asn1_schema.specs.Sound.{is_sound};
 ghost use Rattle.asn1_schema.specs.Tape.{Kept, tape_of, value_of};
+ghost use Rattle.asn1_json.specs.ComesBack.{AllComeBack};
 ghost use Rattle.asn1_json.specs.MadeFrom.{DenotesNone, IsMadeFrom, IsWithin, OrOutOfMemory};
 ghost use Rattle.asn1_json.specs.Outcomes.{DenotesBy, HasWordBy, HaveNone, IsOnly};
 ghost use Rattle.asn1_json.specs.declared.reading.FromJsonError.TheVariants as errors;
@@ -205,6 +206,8 @@ fn made_from_text(
 ///
 /// `Refused` tells the octet of the text and the names that lead to it. It says that the text denotes no value of the
 /// type with a strict encoding. A value that has none may be made, where its elements nest too deep.
+///
+/// What is made of the text of a value on one line is that value, where the document of the text denotes it (`back`).
 pub fn tape_from_json(
     alloc: Global,
     schema: &Schema<'_>,
@@ -217,6 +220,7 @@ pub fn tape_from_json(
     ensures refused { IfErr result (IsWithin (length octets.now)) }
     ensures none { IfErr result (λ e.
         OrOutOfMemory e (DenotesNone schema.now depth of octets.now)) }
+    ensures back { AllComeBack schema.now depth of octets.now result }
 {
     match str::from_utf8(octets) {
         Ok(text) => made_from_text(alloc, schema, of, depth, text),

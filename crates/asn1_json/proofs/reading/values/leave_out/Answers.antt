@@ -32,7 +32,7 @@ returns-in-Default c =
     let is = c.deref.ensures.value in
     subst (λ (p : Presence). ReadsDenotedRow (λ vs. LeftOut der B p vs (λ rest. rest ≡ none)) (λ vs. Unit {0}) c.args.made.now c.put_default.new.made
     c.put_default.result) (sym c.in-Default.is)
-    (default_reads B c.in-Default.octets.now (Word der table depth c.args.field.now.of c.deref.result.now) c.args.made.now c.put_default.new.made
+    (default_reads B c.in-Default.octets (Word der table depth c.args.field.now.of c.deref.result.now) c.args.made.now c.put_default.new.made
     c.put_default.result
     (λ v s. subst (λ (o : List ℕ). Word der table depth c.args.field.now.of o v) is s)
     (λ v s. subst (λ (o : List ℕ). Word der table depth c.args.field.now.of o v) (sym is) s) c.put_default.ensures)
